@@ -1,11 +1,10 @@
 -- What a line has changed: it is answered where the line committed, and where it committed nothing all that is
 -- committed stays.
-use Rattle.std.proofs.Common.{◌≡◌, ◌∙◌, ℕ, ◌+◌, Bool, true, false, if◌then◌else◌, option_map, List, Option, None, Some, Result, Ok, Err, refl, sym, ap, subst}
+use Rattle.std.proofs.Common.{◌≡◌, ◌∙◌, ℕ, ◌+◌, Bool, true, false, option_map, List, Option, None, Some, Result, Ok, Err, refl, sym, ap, subst}
 use Rattle.lx_node.specs.declared.cause.Cause.{Cause}
 use Rattle.lx_host.specs.declared.op.Op.{Op}
 use Rattle.lx_host.specs.Hosts.{Leads}
 use Rattle.lx_marks.specs.Marks.{Marked}
-use Rattle.lx_step.specs.declared.built_in.Turn.{Turn}
 use Rattle.lx_step.specs.declared.line.Tags.{Tags}
 use Rattle.lx_step.specs.declared.listener.Listener.{Listener}
 use Rattle.lx_step.specs.declared.rule.Rule.{Rule}
@@ -13,22 +12,18 @@ use Rattle.lx_step.specs.declared.step.Step.{Step}
 use Rattle.lx_forest.specs.Covered.{AreCovered}
 use Rattle.lx_draft.specs.Working.{Working}
 use Rattle.lx_draft.specs.declared.state.State.{State}
-use Rattle.lx_history.specs.History.{entry_of}
 use Rattle.lx_reconcile.specs.Allowing.{marking}
 use Rattle.lx_reconcile.specs.Told.{Told}
 use Rattle.lx_editor.specs.declared.change.Change.{Change}
 use Rattle.lx_editor.specs.declared.outcome.Outcome.{Outcome}
-use Rattle.lx_editor.specs.declared.recording.Recording.{Recording}
 use Rattle.lx_editor.specs.Changes.{state_of, IsUncommitted, IsChange, IsToldChange, IsNoted}
 use Rattle.lx_editor.specs.Dispatched.{IsListening}
 use Rattle.lx_editor.specs.Editor.{Editor}
-use Rattle.lx_editor.specs.Follows.{at_moment, IsReplyOfDefer, IsReplyOfListener}
+use Rattle.lx_editor.specs.Follows.{at_moment, IsReplyOfListener}
 use Rattle.lx_editor.specs.Gathering.{gathered_by, with_nothing_pending, IsDeferred, IsGatheredOf}
-use Rattle.lx_editor.specs.Judged.{IsCoveredBy}
-use Rattle.lx_editor.specs.Registered.{unless_full, with_one_more}
-use Rattle.lx_editor.specs.Turned.{with_nothing_recorded, IsTurned}
-use Rattle.lx_editor.specs.Updated.{Left, state_with, IsCommitted}
-use Rattle.lx_editor.proofs.Kept.{state_or}
+use Rattle.lx_editor.specs.Registered.{with_one_more}
+use Rattle.lx_editor.specs.Turned.{with_nothing_recorded}
+use Rattle.lx_editor.specs.Updated.{state_with}
 
 -- ---- where nothing is committed
 
@@ -51,13 +46,20 @@ uncommitted_moment old new None is = uncommitted_same old new is
 uncommitted_moment old new (Some moment) is =
     uncommitted_of old (record old { moment = moment }) new is (record { commits = refl; tree = refl; selection = refl; view = refl; last = refl })
 
--- with a rule more, or without
-pub uncommitted_rule : (refused : Bool) (old new : Editor) (rule : Rule) → new ≡ (if refused then unless_full old else with_one_more rule (unless_full old))
-    → IsUncommitted old new
-uncommitted_rule true old new rule is =
-    uncommitted_of old (unless_full old) new is (record { commits = refl; tree = refl; selection = refl; view = refl; last = refl })
-uncommitted_rule false old new rule is =
-    uncommitted_of old (with_one_more rule (unless_full old)) new is (record { commits = refl; tree = refl; selection = refl; view = refl; last = refl })
+-- with a rule more
+pub uncommitted_rule : (old new : Editor) (rule : Rule) → new ≡ with_one_more rule old → IsUncommitted old new
+uncommitted_rule old new rule is =
+    uncommitted_of old (with_one_more rule old) new is (record { commits = refl; tree = refl; selection = refl; view = refl; last = refl })
+
+-- and one commits nothing that follows on what commits nothing
+pub uncommitted_on : (old mid new : Editor) → IsUncommitted old mid → IsUncommitted mid new → IsUncommitted old new
+uncommitted_on old mid new u v = record {
+  commits = v.commits ∙ u.commits;
+  tree = v.tree ∙ u.tree;
+  selection = v.selection ∙ u.selection;
+  view = v.view ∙ u.view;
+  last = v.last ∙ u.last;
+}
 
 gathered_uncommitted : (r : Result Working (Cause × Option ℕ)) (old : Editor) (tags : Tags) (outcome : Outcome) (new : Editor)
     → IsGatheredOf r old tags outcome new → IsUncommitted old new
@@ -66,10 +68,10 @@ gathered_uncommitted (Ok w) old tags outcome new g =
     uncommitted_of old _ new g.1 (record { commits = refl; tree = refl; selection = refl; view = refl; last = refl })
 
 -- an update that waits commits nothing
-pub uncommitted_deferred : (old : Editor) (steps : List Step) (tags : Tags) (bytes : List ℕ) (new : Editor) → IsReplyOfDefer old steps tags bytes new
+pub uncommitted_gathered : (old : Editor) (steps : List Step) (tags : Tags) (outcome : Outcome) (new : Editor) → IsDeferred old steps tags outcome new
     → IsUncommitted old new
 unfolding IsDeferred
-uncommitted_deferred old steps tags bytes new (outcome, deferred, text) = gathered_uncommitted (gathered_by old steps) old tags outcome new deferred
+uncommitted_gathered old steps tags outcome new deferred = gathered_uncommitted (gathered_by old steps) old tags outcome new deferred
 
 listening_uncommitted : (old : Editor) (listener : Listener) (answer : Result ℕ Cause) (new : Editor) → IsListening old listener answer new
     → IsUncommitted old new
@@ -93,13 +95,7 @@ none_told false old change new none same = tt
 
 -- a change of an editor in which the same is committed is one of this
 change_from : (old mid : Editor) (change : Option Change) (new : Editor) → IsUncommitted old mid → IsChange mid change new → IsChange old change new
-change_from old mid None new u c = record {
-  commits = c.commits ∙ u.commits;
-  tree = c.tree ∙ u.tree;
-  selection = c.selection ∙ u.selection;
-  view = c.view ∙ u.view;
-  last = c.last ∙ u.last;
-}
+change_from old mid None new u c = uncommitted_on old mid new u c
 change_from old mid (Some change) new u c = record {
   number = c.number ∙ ap (λ n. n + 1) u.commits;
   ops = c.ops;
@@ -140,7 +136,7 @@ noted_as true ops before marks None made is same state covers = absurd (cc)
 noted_as false ops before marks change made is same state covers = tt
 
 -- what is noted of a commit is what it changed
-noted_told : (asked : Bool) (old new : Editor) (ops : List Op) (marks : Marked) (change : Option Change) → new.commits ≡ old.commits + 1
+pub noted_told : (asked : Bool) (old new : Editor) (ops : List Op) (marks : Marked) (change : Option Change) → new.commits ≡ old.commits + 1
     → option_map (λ (told : Told). told.ops) new.last ≡ Some ops
     → Leads old.view ops new.view → AreCovered old.tree new.tree (marking marks) → IsNoted asked ops (state_of old) marks change
     → IsToldChange asked old change new
@@ -154,21 +150,3 @@ noted_told true old new ops marks (Some change) number last leads covered noted 
 }
 noted_told true old new ops marks None number last leads covered noted = absurd noted
 noted_told false old new ops marks change number last leads covered noted = tt
-
-pub committed_told : (asked : Bool) (old : Editor) (how : Recording) (left : Left) (number : ℕ) (ops : List Op) (new : Editor) (marks : Marked)
-    (change : Option Change) → IsCommitted old how left number ops new
-    → IsCoveredBy old left.tree marks → IsNoted asked ops (state_of old) marks change → IsToldChange asked old change new
-committed_told asked old how left number ops new marks change done covered noted =
-    noted_told asked old new ops marks change (ap (λ (e : Editor). e.commits) done.made)
-    (ap (λ (e : Editor). option_map (λ (told : Told). told.ops) e.last) done.made) done.allowed.leads
-    (subst (λ f. AreCovered old.tree f (marking marks)) (sym (ap (λ (e : Editor). e.tree) done.made)) covered) noted
-
-pub turned_told : (asked : Bool) (turn : Turn) (moment : ℕ) (old : Editor) (state : State) (number : ℕ) (ops : List Op) (new : Editor) (marks : Marked)
-    (change : Option Change)
-    → entry_of turn old.history ≡ Some state → IsTurned turn moment old number ops new → IsCoveredBy old state.links marks
-    → IsNoted asked ops (state_of old) marks change → IsToldChange asked old change new
-turned_told asked turn moment old state number ops new marks change next done covered noted =
-    let tree : new.tree ≡ state.links = ap (λ (e : Editor). e.tree) done.made ∙ ap (λ (s : State). s.links) (ap (state_or state) (sym done.next ∙ next)) in
-    noted_told asked old new ops marks change (ap (λ (e : Editor). e.commits) done.made)
-    (ap (λ (e : Editor). option_map (λ (told : Told). told.ops) e.last) done.made) done.allowed.leads
-    (subst (λ f. AreCovered old.tree f (marking marks)) (sym tree) covered) noted

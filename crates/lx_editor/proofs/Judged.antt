@@ -17,17 +17,14 @@ use Rattle.lx_editor.specs.declared.outcome.Outcome.TheVariants as made
 use Rattle.lx_editor.specs.declared.outcome.Verdict.{Verdict}
 use Rattle.lx_editor.specs.declared.outcome.Verdict.TheVariants.{Commit, Turned, Refused, Idle}
 use Rattle.lx_draft.specs.Working.{Working}
-use Rattle.lx_draft.specs.declared.state.State.{State}
-use Rattle.lx_history.specs.History.{entry_of}
 use Rattle.lx_editor.specs.declared.recording.Recording.{Recording}
-use Rattle.lx_editor.proofs.Kept.{state_or}
 use Rattle.lx_editor.specs.Dispatched.{answer_by, answer_to, unless_gathering, unless_refused, IsMadeOfAnswer}
 use Rattle.lx_editor.specs.Editor.{Editor}
 use Rattle.lx_editor.specs.Gathering.{begun, is_gathering, recording_all, with_nothing_pending}
-use Rattle.lx_editor.specs.Follows.{html_told, view_told, reply_of}
+use Rattle.lx_editor.specs.Follows.{reply_of}
 use Rattle.lx_editor.specs.Turned.{IsTurned, IsTurnedBy}
 use Rattle.lx_editor.specs.Updated.{Left, Settled, rested_by, IsNothingNew, IsCommitted, IsTaken, IsMadeOf}
-use Rattle.lx_editor.specs.Registered.{with_one_more}
+use Rattle.lx_editor.specs.Registered.{left_for, with_one_more, with_rule}
 use Rattle.lx_editor.specs.Judged.{MayCommit, MayTurn, IsWeighed, IsJudged, IsTurnJudged, IsAnswerJudged, IsForCause, MayConclude, IsConcluded, is_refused, is_idle}
 
 -- what is judged may be concluded
@@ -171,6 +168,15 @@ module _ (how : Recording) (old : Editor) (rule : Rule) where
       → IsConcluded e how verdict outcome new → IsMadeOf r old how outcome new
   rule_concluded r verdict e outcome new judged is done = rule_judged r verdict outcome new judged (subst (λ x. IsConcluded x how verdict outcome new) is done)
 
+-- a rule that isn't refused stays, and what is concluded with it is what was judged of it
+pub rule_kept : (how : Recording) (old : Editor) (rule : Rule) (with : Editor) (draft : Working) (verdict : Verdict) (outcome : Outcome) (new : Editor)
+    → with ≡ with_one_more rule old → IsJudged (left_for with.rules rule.on draft) with verdict → is_refused verdict ≡ false
+    → IsConcluded with how verdict outcome new → IsMadeOf (left_for (with_rule old.rules rule) rule.on draft) old how outcome new
+rule_kept how old rule with draft verdict outcome new is judged kept done =
+    rule_concluded how old rule (left_for (with_rule old.rules rule) rule.on draft) verdict with outcome new
+    (subst (λ (e : Editor). IsJudged (left_for e.rules rule.on draft) e verdict) is judged)
+    (is ∙ ap (λ b. if b then old else with_one_more rule old) (sym kept)) done
+
 -- ---- what a line takes in
 
 -- What is concluded of a draft that was pending, or of one of what is committed, is what the line makes of the editor.
@@ -210,20 +216,6 @@ handled_told (made.Committed number ops) html handled = refl
 handled_told (made.Refused cause step) html handled = refl
 handled_told made.Idle html handled = refl
 handled_told (made.Gathered count) html handled = refl
-
--- ---- replies
-
--- the view in the reply to a commit is that of what was left
-pub committed_view : (old : Editor) (how : Recording) (left : Left) (commit : ℕ) (ops : List Op) (new : Editor) → IsCommitted old how left commit ops new
-    → view_told new ≡ html_told old.tells_view left.tree
-committed_view old how left commit ops new c = ap view_told c.made
-
--- that of an undo or a redo is the entry's
-pub turned_view : (turn : Turn) (moment : ℕ) (old : Editor) (state : State) (commit : ℕ) (ops : List Op) (new : Editor) → entry_of turn old.history ≡ Some state
-    → IsTurned turn moment old commit ops new
-    → view_told new ≡ html_told old.tells_view state.links
-turned_view turn moment old state commit ops new next t =
-    ap view_told t.made ∙ ap (λ (s : State). html_told old.tells_view s.links) (ap (state_or state) (sym t.next ∙ next))
 
 -- ---- a load
 

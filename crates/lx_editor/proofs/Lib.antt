@@ -14,3 +14,4 @@ pub mod Selected
 pub mod Began
 pub mod Waiting
 pub mod Changed
+pub mod Said

@@ -1,5 +1,5 @@
 -- What is pending, as lines take it in or leave it.
-use Rattle.std.proofs.Common.{◌≡◌, ◌∙◌, ℕ, ◌+◌, ◌<◌, ◌==◌, nat_lt, Bool, true, false, not, if◌then◌else◌, List, length, Option, None, Some, Ok, Err, refl, sym, ap, subst, arith, inl, inr}
+use Rattle.std.proofs.Common.{◌≡◌, ◌∙◌, ℕ, ◌+◌, ◌<◌, ◌≤◌, ◌==◌, nat_lt, true, false, not, if◌then◌else◌, List, length, Option, None, Some, Ok, Err, refl, sym, ap, subst, arith, inl, inr}
 use Rattle.std.proofs.lemmas.Bool.{cases_Bool}
 use Rattle.std.proofs.lemmas.Bool.Decides.{nat_tests}
 use Rattle.lx_node.specs.declared.cause.Cause.{Cause}
@@ -12,15 +12,16 @@ use Rattle.lx_run.specs.Lines.{deferred_run, drafted}
 use Rattle.lx_run.specs.Refusals.{TellsRefusal}
 use Rattle.lx_run.specs.declared.refusal.Refusal.{Refusal}
 use Rattle.lx_run.specs.declared.refusal.Refusal.TheVariants as refusal
+use Rattle.lx_editor.specs.declared.outcome.Outcome.{Outcome}
 use Rattle.lx_editor.specs.declared.outcome.Outcome.TheVariants as made
-use Rattle.lx_editor.specs.declared.outcome.Verdict.{Verdict}
 use Rattle.lx_editor.specs.declared.pending.Pending.{Pending}
+use Rattle.lx_editor.specs.declared.recording.Recording.{Recording}
 use Rattle.lx_editor.specs.Editor.{Editor}
-use Rattle.lx_editor.specs.Gathering.{begun, gathered_by, is_gathering, pending_of, started_of, with_line, with_nothing_pending, with_pending, IsDeferred, IsGatheredOf, IsLeftWithout, IsPending}
+use Rattle.lx_editor.specs.Gathering.{begun, gathered_by, is_gathering, pending_of, recording, recording_all, started_of, with_line, with_nothing_pending, with_pending, IsDeferred, IsGatheredOf, IsLeftWithout, IsPending}
 use Rattle.lx_editor.specs.Follows.{at_moment}
-use Rattle.lx_editor.specs.Judged.{IsJudged, is_refused}
-use Rattle.lx_editor.specs.Registered.{most_rules, left_by_rule, left_for, unless_full, with_one_more, with_rule}
+use Rattle.lx_editor.specs.Registered.{most_rules, left_for, merging, unless_full, with_rule, IsRegistered}
 use Rattle.lx_editor.specs.Standing.{IsValid}
+use Rattle.lx_editor.specs.Updated.{IsMadeOf}
 
 -- ---- a registering takes in what is pending, but for one too many
 
@@ -40,57 +41,33 @@ rule_left_without old new is = elim (cases_Bool (nat_lt (length old.rules) most_
 pub rules_fit : (old : Editor) (n : ℕ) → n ≡ length old.rules → n < 258 → nat_lt (length old.rules) most_rules ≡ true
 rules_fit old n is less = let fits : nat_lt n 258 ≡ true = grind (arith, nat_tests) in subst (λ m. nat_lt m 258 ≡ true) is fits
 
--- the rule is judged with what is pending
-pub rule_judged_in : (old mid : Editor) (rule : Rule) (draft : Working) (verdict : Verdict) → nat_lt (length old.rules) most_rules ≡ true
-    → mid ≡ with_nothing_pending old → draft ≡ begun old
-    → IsJudged (left_for (with_rule mid.rules rule) rule.on draft) (with_one_more rule mid) verdict
-    → IsJudged (left_by_rule old rule) (with_one_more rule (unless_full old)) verdict
-rule_judged_in old mid rule draft verdict fits taken is judged =
+pub rules_full : (old : Editor) (n : ℕ) → n ≡ length old.rules → 258 ≤ n → nat_lt (length old.rules) most_rules ≡ false
+rules_full old n is full = let more : nat_lt n 258 ≡ false = grind (arith, nat_tests) in subst (λ m. nat_lt m 258 ≡ false) is more
+
+-- one too many is refused, and nothing changes
+pub rule_refused : (old : Editor) (rule : Rule) (moment : ℕ) → nat_lt (length old.rules) most_rules ≡ false
+    → IsRegistered old rule moment (made.Refused TooManyRules None) old
+unfolding IsRegistered
+rule_refused old rule moment full =
+    let all : Recording = recording_all old (recording merging moment) in
     let left = left_for (with_rule old.rules rule) rule.on in
-    let by_rule : left_by_rule old rule ≡ left (begun old) = ap (λ b. if b then left (begun old) else Err (TooManyRules, None)) fits in
-    subst (λ r. IsJudged r (with_one_more rule (unless_full old)) verdict) (sym by_rule)
-    (subst (λ (e : Editor). IsJudged (left (begun old)) (with_one_more rule e) verdict) (sym (room_for_rule old fits))
-    (subst (λ (w : Working). IsJudged (left w) (with_one_more rule (with_nothing_pending old)) verdict) is
-    (subst (λ (e : Editor). IsJudged (left_for (with_rule e.rules rule) rule.on draft) (with_one_more rule e) verdict) taken judged)))
+    subst (λ b. IsMadeOf (if b then left (begun old) else Err (TooManyRules, None)) (record old { pending = if b then None else old.pending }) all
+    (made.Refused TooManyRules None) old)
+    (sym full) (refl, refl)
 
--- ---- a rule that is given up again
-
-new_unless : (told refused : Bool) → told ≡ refused → not told ≡ true → refused ≡ false
-new_unless true refused is new = absurd (cc)
-new_unless false refused is new = sym is
-
-old_unless : (told refused : Bool) → told ≡ refused → not told ≡ false → refused ≡ true
-old_unless true refused is old = sym is
-old_unless false refused is old = absurd (cc)
-
-kept_unless : (refused : Bool) (e one other : Editor) → refused ≡ false → e ≡ (if refused then one else other) → e ≡ other
-kept_unless true e one other is same = absurd (cc)
-kept_unless false e one other is same = same
-
-same_unless : (refused : Bool) (e one other : Editor) → refused ≡ true → e ≡ (if refused then one else other) → e ≡ one
-same_unless true e one other is same = same
-same_unless false e one other is same = absurd (cc)
-
--- where it was new it is the last rule
-pub last_rule : (e mid one other : Editor) (verdict : Verdict) (told : Bool) → told ≡ is_refused verdict → not told ≡ true
-    → mid ≡ (if is_refused verdict then one else other) → e ≡ mid → e ≡ other
-last_rule e mid one other verdict told is new same unchanged =
-    unchanged ∙ kept_unless (is_refused verdict) mid one other (new_unless told (is_refused verdict) is new) same
-
--- and else there was none
-pub no_rule : (e mid one other : Editor) (verdict : Verdict) (told : Bool) → told ≡ is_refused verdict → not told ≡ false
-    → mid ≡ (if is_refused verdict then one else other) → e ≡ mid → e ≡ one
-no_rule e mid one other verdict told is old same unchanged =
-    unchanged ∙ same_unless (is_refused verdict) mid one other (old_unless told (is_refused verdict) is old) same
-
--- it is given up, and so the editor is as it was, but for what is pending
-pub rule_given_up : (old mid behind new : Editor) (rule : Rule) (verdict : Verdict) (told : Bool) → told ≡ is_refused verdict
-    → mid ≡ (if is_refused verdict then unless_full old else with_one_more rule (unless_full old)) → behind ≡ mid
-    → (told ≡ false → (e : Editor) (r : Rule) → behind ≡ with_one_more r e → new ≡ e) → (told ≡ true → new ≡ behind) → new ≡ unless_full old
-rule_given_up old mid behind new rule verdict true is same unchanged gone kept =
-    kept refl ∙ no_rule behind mid (unless_full old) (with_one_more rule (unless_full old)) verdict true is refl same unchanged
-rule_given_up old mid behind new rule verdict false is same unchanged gone kept =
-    gone refl (unless_full old) rule (last_rule behind mid (unless_full old) (with_one_more rule (unless_full old)) verdict false is refl same unchanged)
+-- what it makes then of the editor with nothing pending is what registering it does
+pub rule_registered : (old mid : Editor) (rule : Rule) (moment : ℕ) (draft : Working) (how : Recording) (outcome : Outcome) (new : Editor)
+    → nat_lt (length old.rules) most_rules ≡ true → mid ≡ with_nothing_pending old → draft ≡ begun old → how ≡ recording_all old (recording merging moment)
+    → IsMadeOf (left_for (with_rule mid.rules rule) rule.on draft) mid how outcome new → IsRegistered old rule moment outcome new
+unfolding IsRegistered
+rule_registered old mid rule moment draft how outcome new fits taken is recorded made =
+    let all : Recording = recording_all old (recording merging moment) in
+    let left = left_for (with_rule old.rules rule) rule.on in
+    subst (λ b. IsMadeOf (if b then left (begun old) else Err (TooManyRules, None)) (record old { pending = if b then None else old.pending }) all outcome new)
+    (sym fits)
+    (subst (λ (w : Working). IsMadeOf (left w) (with_nothing_pending old) all outcome new) is
+    (subst (λ (h : Recording). IsMadeOf (left draft) (with_nothing_pending old) h outcome new) recorded
+    (subst (λ (e : Editor). IsMadeOf (left_for (with_rule e.rules rule) rule.on draft) e how outcome new) taken made)))
 
 -- ---- whether lines are gathered
 

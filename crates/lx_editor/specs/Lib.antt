@@ -9,3 +9,4 @@ pub mod Standing
 pub mod Judged
 pub mod Changes
 pub mod Follows
+pub mod Saying

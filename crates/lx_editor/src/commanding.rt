@@ -6,18 +6,20 @@ use crate::change::Telling;
 use crate::editor::Editor;
 use crate::outcome::Outcome;
 use crate::recording::Recording;
+use crate::saying::{Outcomes, Saying};
 use lx_node::{Cause, Fault, NoMemory};
 use lx_script::{Reply, write_reply};
 use lx_step::{Command, Listener, Tags};
 use std::alloc::Global;
 
 impl Editor {
-    ghost use Rattle.std.specs.Prelude.{◌≡◌, ◌+◌, ◌<◌, ◌≤◌, None, IfOk, OnOk, OnErr};
+    ghost use Rattle.std.specs.Prelude.{◌≡◌, ◌+◌, ◌<◌, ◌≤◌, None, Some, IfOk, OnOk, OnErr};
     ghost use Rattle.lx_step.specs.Sound.{IsSoundListener};
-    ghost use Rattle.lx_editor.specs.Dispatched.{IsDispatched, IsListening};
+    ghost use Rattle.lx_editor.specs.declared.outcome.Outcome.{Outcome as OutcomeOf};
+    ghost use Rattle.lx_editor.specs.Dispatched.{IsDispatched, IsListening, unless_refused};
+    ghost use Rattle.lx_editor.specs.Changes.{IsToldChange};
     ghost use Rattle.lx_editor.specs.Follows.{IsReplyOfDispatch, IsReplyOfListener};
     ghost use Rattle.lx_editor.specs.Gathering.{recording, with_nothing_pending};
-    ghost use Rattle.lx_editor.specs.Changes.{IsToldChange};
 
     /// Dispatches a command: it is offered to the listeners of its name, from priority 4 down to 0 and within one
     /// priority in the order of registration, until one has handled it. What their steps leave comes to rest under the
@@ -27,7 +29,6 @@ impl Editor {
     /// says whether a listener has handled the command, too; of a dispatch that is refused it says that none has, and
     /// as the step that was refused it gives step 0, or none. Updates that wait are taken in, as an update takes them
     /// in. Where memory runs out nothing is pending, and the editor is as it was in all else.
-    #[tactic(auto, unfolding(crate::specs::Dispatched::IsDispatched))]
     pub fn dispatch(
         &mut self,
         alloc: Global,
@@ -40,16 +41,35 @@ impl Editor {
         ensures commits { self.new.commits ≤ self.old.commits + 1 }
         ensures unchanged { OnErr result (self.new ≡ with_nothing_pending self.old) }
     {
-        let how = self.recording(Recording { tags, moment });
-        let gathering = self.gathered() > 0;
-        let draft = self.take_draft(alloc)?;
-        let (verdict, handled) = self.judge_dispatch(alloc, draft, gathering, command)?;
-        let outcome = self.conclude(alloc, verdict, how)?;
+        let mut outcomes = Outcomes;
+        let how = Recording { tags, moment };
+        let (handled, outcome) = self.dispatch_saying(alloc, command, how, &mut outcomes)?;
         let handled = outcome.unless_refused(handled);
         Ok((handled, outcome))
     }
 
-    /// The same, answered with the bytes of a reply, which is made before anything is committed.
+    /// The same, said by a sayer. Of a dispatch that is refused it may answer that the command was handled.
+    pub(crate) fn dispatch_saying<S: Saying>(
+        &mut self,
+        alloc: Global,
+        command: &Command,
+        how: Recording,
+        sayer: &mut S,
+    ) -> Result<(bool, S::Said), NoMemory>
+        requires room { self.old.commits < last_u32 }
+        ensures dispatched { IfOk result (λ told. (outcome : OutcomeOf) × IsDispatched self.old command.now how outcome (unless_refused outcome told.0) self.new × S.tells sayer.old (Some told.0) self.old outcome self.new told.1 sayer.new) }
+        ensures commits { self.new.commits ≤ self.old.commits + 1 }
+        ensures unchanged { OnErr result (self.new ≡ with_nothing_pending self.old) }
+    {
+        let all = self.recording(how);
+        let gathering = self.gathered() > 0;
+        let draft = self.take_draft(alloc)?;
+        let (verdict, handled) = self.judge_dispatch(alloc, draft, gathering, command)?;
+        let said = self.conclude(alloc, verdict, Some(handled), all, sayer)?;
+        Ok((handled, said))
+    }
+
+    /// The same, said with the bytes of a reply.
     pub(crate) fn reply_to_dispatch(
         &mut self,
         alloc: Global,
@@ -64,11 +84,10 @@ impl Editor {
         ensures commits { self.new.commits ≤ self.old.commits + 1 }
         ensures unchanged { OnErr result (self.new ≡ with_nothing_pending self.old) }
     {
-        let all = self.recording(how);
-        let gathering = self.gathered() > 0;
-        let draft = self.take_draft(alloc)?;
-        let (verdict, handled) = self.judge_dispatch(alloc, draft, gathering, command)?;
-        self.reply(alloc, verdict, Some(handled), all, told)
+        match self.dispatch_saying(alloc, command, how, told) {
+            Ok((_, reply)) => Ok(reply),
+            Err(error) => Err(error),
+        }
     }
 
     /// Registers a listener after those that are registered, and answers its number, from 1. Nothing is committed. It

@@ -6,6 +6,7 @@ use crate::pending::{Pending, forget};
 use crate::reconciling::follow;
 use crate::recording::Recording;
 use crate::registering::built_in_rules;
+use crate::saying::{Outcomes, Saying};
 use lx_bus::Bus;
 use lx_clip::slice;
 use lx_draft::{Frozen, State};
@@ -87,7 +88,9 @@ impl Editor {
     ghost use Rattle.std.specs.Option.{option_copied};
     ghost use Rattle.lx_step.specs.Sound.{IsSound};
     ghost use Rattle.lx_reconcile.specs.Allowed.{Shows};
-    ghost use Rattle.lx_editor.specs.Editor.{new_editor};
+    ghost use Rattle.lx_editor.specs.declared.outcome.Outcome.{Outcome as OutcomeOf};
+    ghost use Rattle.lx_editor.specs.Changes.{IsUncommitted};
+    ghost use Rattle.lx_editor.specs.Editor.{new_editor, Editor as EditorOf};
     ghost use Rattle.lx_editor.specs.Standing.{IsState};
     ghost use Rattle.lx_editor.specs.Gathering.{recording, with_nothing_pending};
     ghost use Rattle.lx_editor.specs.Updated.{IsUpdated, IsCommitted, left_of};
@@ -159,7 +162,6 @@ impl Editor {
     /// selection equal commit nothing. A commit is recorded in the history as the tags and the time say, which is in
     /// milliseconds. Updates that wait are taken in: the steps run after theirs, and what all of them leave is
     /// committed, or dropped. Where memory runs out nothing is pending, and the editor is as it was in all else.
-    #[tactic(auto, unfolding(crate::specs::Updated::IsUpdated))]
     pub fn update(
         &mut self,
         alloc: Global,
@@ -173,22 +175,42 @@ impl Editor {
         ensures commits { self.new.commits ≤ self.old.commits + 1 }
         ensures unchanged { OnErr result (self.new ≡ with_nothing_pending self.old) }
     {
-        let how = self.recording(Recording { tags, moment });
-        let draft = self.take_draft(alloc)?;
-        let verdict = self.judge(alloc, draft, steps)?;
-        self.conclude(alloc, verdict, how)
+        let mut outcomes = Outcomes;
+        self.update_saying(alloc, steps, Recording { tags, moment }, &mut outcomes)
     }
 
-    /// Commits what is to be committed, and answers the outcome.
-    pub(crate) fn conclude(
+    /// The same, said by a sayer.
+    pub(crate) fn update_saying<S: Saying>(
+        &mut self,
+        alloc: Global,
+        steps: &[Step],
+        how: Recording,
+        sayer: &mut S,
+    ) -> Result<S::Said, NoMemory>
+        requires sound { All IsSound steps.now }
+        requires room { self.old.commits < last_u32 }
+        ensures updated { IfOk result (λ said. (outcome : OutcomeOf) × IsUpdated self.old steps.now how outcome self.new × S.tells sayer.old None self.old outcome self.new said sayer.new) }
+        ensures commits { self.new.commits ≤ self.old.commits + 1 }
+        ensures unchanged { OnErr result (self.new ≡ with_nothing_pending self.old) }
+    {
+        let all = self.recording(how);
+        let draft = self.take_draft(alloc)?;
+        let verdict = self.judge(alloc, draft, steps)?;
+        self.conclude(alloc, verdict, None, all, sayer)
+    }
+
+    /// Commits what is to be committed, once that is said.
+    pub(crate) fn conclude<S: Saying>(
         &mut self,
         alloc: Global,
         verdict: Verdict,
+        handled: Option<bool>,
         how: Recording,
-    ) -> Result<Outcome, NoMemory>
+        sayer: &mut S,
+    ) -> Result<S::Said, NoMemory>
         requires room { self.old.commits < last_u32 }
         requires may { MayConclude self.old verdict }
-        ensures concluded { IfOk result (λ outcome. IsConcluded self.old how verdict outcome self.new) }
+        ensures concluded { IfOk result (λ said. (outcome : OutcomeOf) × IsConcluded self.old how verdict outcome self.new × ((old : EditorOf) → IsUncommitted old self.old → S.tells sayer.old handled old outcome self.new said sayer.new)) }
         ensures commits { self.new.commits ≤ self.old.commits + 1 }
         ensures unchanged { OnErr result (self.new ≡ self.old) }
     {
@@ -198,24 +220,25 @@ impl Editor {
                 batch,
                 shown,
             } => {
-                let number = self.next_commit();
-                let ops = batch.copy_ops(alloc)?;
+                let left = frozen.as_ref();
+                let marks = covering(left, &shown);
+                let said = sayer.say_commit(alloc, self, &left.state, &batch, marks, handled)?;
                 self.commit(alloc, frozen, batch, shown, how)?;
-                Ok(Outcome::Committed { number, ops })
+                Ok(said)
             }
             Verdict::Turned {
                 turn,
                 state,
                 batch,
-                ..
+                marks,
             } => {
-                let number = self.next_commit();
-                let ops = batch.copy_ops(alloc)?;
+                let next = state.as_ref();
+                let said = sayer.say_commit(alloc, self, next, &batch, marks.as_ref(), handled)?;
                 self.commit_entry(alloc, turn, state, batch, how.moment)?;
-                Ok(Outcome::Committed { number, ops })
+                Ok(said)
             }
-            Verdict::Refused { cause, step } => Ok(Outcome::Refused { cause, step }),
-            Verdict::Idle => Ok(Outcome::Idle),
+            Verdict::Refused { cause, step } => sayer.say_refused(alloc, cause, step),
+            Verdict::Idle => sayer.say_idle(alloc, handled),
         }
     }
 
@@ -228,8 +251,8 @@ impl Editor {
     }
 
     /// Commits what is left, with operations for the view, and records it. The marks that cover the trees before and after are
-    /// those that are shown, where there are such, and else those of what is frozen. All memory is taken first. Without memory
-    /// the editor is as it was.
+    /// those that are shown, where there are such, and else those of what is frozen. All memory that can be
+    /// wanting is taken first. Without it the editor is as it was.
     pub(crate) fn commit(
         &mut self,
         alloc: Global,

@@ -2,15 +2,14 @@
 
 ghost use Rattle.lx_node.specs.Limits.{last_u32};
 
-use crate::change::Telling;
 use crate::editor::Editor;
 use crate::outcome::Outcome;
 use crate::pending::Pending;
 use crate::recording::Recording;
+use crate::saying::{Outcomes, Saying, say_refusal};
 use lx_draft::Draft;
 use lx_node::NoMemory;
 use lx_run::{Refusal, run_deferred};
-use lx_script::{Reply, write_reply};
 use lx_step::{Step, Tags};
 use std::alloc::Global;
 
@@ -20,10 +19,9 @@ impl Editor {
     ghost use Rattle.lx_step.specs.Sound.{IsSound};
     ghost use Rattle.lx_draft.specs.Covering.{AreCovered};
     ghost use Rattle.lx_run.specs.Refusals.{TellsRefusal};
-    ghost use Rattle.lx_editor.specs.Follows.{IsReplyOfDefer, IsReplyOfFlush};
+    ghost use Rattle.lx_editor.specs.declared.outcome.Outcome.{Outcome as OutcomeOf};
     ghost use Rattle.lx_editor.specs.Gathering.{started_of, pending_of, begun, with_nothing_pending, with_pending, with_line, recording, recording_all, gathered_by, IsPending, IsDeferred};
     ghost use Rattle.lx_editor.specs.Updated.{IsFlushed};
-    ghost use Rattle.lx_editor.specs.Changes.{IsToldChange};
 
     /// How many updates are gathered and wait for a call that commits them, at most 100,000. It is 0 where none are.
     pub fn gathered(&self) -> u32
@@ -70,7 +68,6 @@ impl Editor {
     /// two; then all that was pending is dropped with it. The time, in milliseconds, means nothing, since a commit has
     /// that of the call which commits. Where memory runs out nothing is pending, and the editor is as it was in all
     /// else.
-    #[tactic(auto, unfolding(crate::specs::Gathering::IsDeferred))]
     pub fn defer(
         &mut self,
         alloc: Global,
@@ -83,39 +80,30 @@ impl Editor {
         ensures commits { self.new.commits ≡ self.old.commits }
         ensures unchanged { OnErr result (self.new ≡ with_nothing_pending self.old) }
     {
-        match self.gather(alloc, steps, tags) {
-            Ok(gathered) => {
-                let count = gathered.lines;
-                self.keep(gathered);
-                Ok(Outcome::Gathered { count })
-            }
-            Err(Refusal::Cause { cause, step }) => Ok(Outcome::Refused { cause, step }),
-            Err(Refusal::Memory) => Err(NoMemory),
-        }
+        let mut outcomes = Outcomes;
+        self.defer_saying(alloc, steps, tags, &mut outcomes)
     }
 
-    /// The same, answered with the bytes of a reply, which is made before the line is gathered.
-    pub(crate) fn reply_to_defer(
+    /// The same, said by a sayer.
+    pub(crate) fn defer_saying<S: Saying>(
         &mut self,
         alloc: Global,
         steps: &[Step],
         tags: Tags,
-    ) -> Result<Vec<u8>, NoMemory>
+        sayer: &mut S,
+    ) -> Result<S::Said, NoMemory>
         requires sound { All IsSound steps.now }
-        ensures replies { IfOk result (λ reply. IsReplyOfDefer self.old steps.now tags reply.items self.new) }
+        ensures deferred { IfOk result (λ said. (outcome : OutcomeOf) × IsDeferred self.old steps.now tags outcome self.new × S.tells sayer.old None self.old outcome self.new said sayer.new) }
         ensures commits { self.new.commits ≡ self.old.commits }
         ensures unchanged { OnErr result (self.new ≡ with_nothing_pending self.old) }
     {
         match self.gather(alloc, steps, tags) {
             Ok(pending) => {
-                let reply = write_reply(alloc, &Reply::Gathered(pending.lines))?;
+                let said = sayer.say_gathered(alloc, pending.lines)?;
                 self.keep(pending);
-                Ok(reply)
+                Ok(said)
             }
-            Err(Refusal::Cause { cause, step }) => {
-                write_reply(alloc, &Reply::Refused { cause, step })
-            }
-            Err(Refusal::Memory) => Err(NoMemory),
+            Err(refusal) => say_refusal(alloc, refusal, sayer),
         }
     }
 
@@ -163,36 +151,31 @@ impl Editor {
     /// step, where the rules don't come to rest, or where what is left is beyond a limit or has lost its selection, and
     /// what was pending is dropped then. Where memory runs out nothing is pending, and the editor is as it was in all
     /// else.
-    #[tactic(auto, unfolding(crate::specs::Updated::IsFlushed))]
     pub fn flush(&mut self, alloc: Global, tags: Tags, moment: u64) -> Result<Outcome, NoMemory>
         requires room { self.old.commits < last_u32 }
         ensures flushed { IfOk result (λ outcome. IsFlushed self.old (recording tags moment) outcome self.new) }
         ensures commits { self.new.commits ≤ self.old.commits + 1 }
         ensures unchanged { OnErr result (self.new ≡ with_nothing_pending self.old) }
     {
-        let how = self.recording(Recording { tags, moment });
-        let draft = self.take_draft(alloc)?;
-        let verdict = self.judge_draft(alloc, draft)?;
-        self.conclude(alloc, verdict, how)
+        let mut outcomes = Outcomes;
+        self.flush_saying(alloc, Recording { tags, moment }, &mut outcomes)
     }
 
-    /// The same, answered with the bytes of a reply, which is made before anything is committed.
-    pub(crate) fn reply_to_flush(
+    /// The same, said by a sayer.
+    pub(crate) fn flush_saying<S: Saying>(
         &mut self,
         alloc: Global,
         how: Recording,
-        told: &mut Telling,
-    ) -> Result<Vec<u8>, NoMemory>
+        sayer: &mut S,
+    ) -> Result<S::Said, NoMemory>
         requires room { self.old.commits < last_u32 }
-        requires untold { told.old.change ≡ None }
-        ensures change { OnOk result (IsToldChange told.old.asked self.old told.new.change self.new) }
-        ensures replies { IfOk result (λ reply. IsReplyOfFlush self.old how reply.items self.new) }
+        ensures flushed { IfOk result (λ said. (outcome : OutcomeOf) × IsFlushed self.old how outcome self.new × S.tells sayer.old None self.old outcome self.new said sayer.new) }
         ensures commits { self.new.commits ≤ self.old.commits + 1 }
         ensures unchanged { OnErr result (self.new ≡ with_nothing_pending self.old) }
     {
         let all = self.recording(how);
         let draft = self.take_draft(alloc)?;
         let verdict = self.judge_draft(alloc, draft)?;
-        self.reply(alloc, verdict, None, all, told)
+        self.conclude(alloc, verdict, None, all, sayer)
     }
 }

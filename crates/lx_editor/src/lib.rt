@@ -17,6 +17,7 @@ mod pending;
 mod reconciling;
 mod recording;
 mod registering;
+mod saying;
 mod turning;
 
 pub use answer::answer_line;

@@ -1,42 +1,19 @@
 ghost use Rattle.lx_node.specs.Limits.{last_u32};
-ghost use Rattle.std.specs.Prelude.{[], ◌∷◌, ◌≡◌, IfOk};
-ghost use Rattle.lx_forest.specs.Lookups.{roots, IsForest};
-ghost use Rattle.lx_editor.specs.Follows.{html_told};
+ghost use Rattle.std.specs.Prelude.{◌≡◌, IfOk};
 
 use crate::change::{Change, Telling};
 use crate::editor::Editor;
-use crate::outcome::Verdict;
 use crate::recording::Recording;
-use lx_draft::State;
-use lx_node::{NoMemory, Txt};
-use lx_reconcile::{Batch, fresh};
-use lx_script::{Reply, write_commit, write_reply};
-use lx_step::{Form, Line, Step, Tags};
+use lx_node::NoMemory;
+use lx_step::{Form, Line, Tags};
 use std::alloc::Global;
 
-/// The HTML of a state's rendering, where it is asked for.
-fn view_of(alloc: Global, state: &State, is_told: bool) -> Result<Option<Txt>, NoMemory>
-    requires alone { roots state.now.links ≡ 0 ∷ [] }
-    requires order { IsForest state.now.links }
-    ensures { IfOk result (λ html. html ≡ html_told is_told state.now.links) }
-{
-    if !is_told {
-        return Ok(None);
-    }
-    let html = fresh(alloc, state)?.print_html()?;
-    Ok(Some(html))
-}
-
 impl Editor {
-    ghost use Rattle.std.specs.Prelude.{◌+◌, ◌<◌, ◌≤◌, None, All, OnOk, OnErr};
-    ghost use Rattle.lx_step.specs.Sound.{IsSound, IsSoundForm};
-    ghost use Rattle.lx_script.specs.Replies.{reply_text};
-    ghost use Rattle.lx_script.specs.declared.reply.Reply.TheVariants.{Committed};
-    ghost use Rattle.lx_editor.specs.declared.outcome.Outcome.{Outcome as OutcomeOf};
-    ghost use Rattle.lx_editor.specs.Gathering.{with_nothing_pending, IsLeftWithout};
-    ghost use Rattle.lx_editor.specs.Judged.{MayConclude, IsConcluded};
+    ghost use Rattle.std.specs.Prelude.{◌+◌, ◌<◌, ◌≤◌, None, OnOk, OnErr};
+    ghost use Rattle.lx_step.specs.Sound.{IsSoundForm};
+    ghost use Rattle.lx_editor.specs.Gathering.{IsLeftWithout};
     ghost use Rattle.lx_editor.specs.Changes.{IsChange, IsToldChange};
-    ghost use Rattle.lx_editor.specs.Follows.{RepliesTo, RepliesToLine, IsReplyOfUpdate, at_moment, reply_of, view_told};
+    ghost use Rattle.lx_editor.specs.Follows.{RepliesTo, RepliesToLine, at_moment};
 
     /// Does what a line asks for, and answers with the bytes of a reply: the outcome of an update, of a flush, of a
     /// dispatch, of registering a rule or of a load, the number of a listener, what is committed, or that the history is
@@ -144,101 +121,15 @@ impl Editor {
         let moment = self.moment;
         let how = Recording { tags, moment };
         match form {
-            Form::Update(steps) => self.reply_to_steps(alloc, steps.items(), how, told),
-            Form::Defer(steps) => self.reply_to_defer(alloc, steps.items(), tags),
-            Form::Flush => self.reply_to_flush(alloc, how, told),
+            Form::Update(steps) => self.update_saying(alloc, steps.items(), how, told),
+            Form::Defer(steps) => self.defer_saying(alloc, steps.items(), tags, told),
+            Form::Flush => self.flush_saying(alloc, how, told),
             Form::Dispatch(command) => self.reply_to_dispatch(alloc, &command, how, told),
-            Form::Rule(rule) => self.reply_to_rule(alloc, rule, moment, told),
+            Form::Rule(rule) => self.register_saying(alloc, rule, moment, told),
             Form::Listener(listener) => self.reply_to_listener(alloc, listener),
-            Form::Load(document) => self.reply_to_load(alloc, &document, how, told),
+            Form::Load(document) => self.load_saying(alloc, &document, how, told),
             Form::Show(shown) => self.show(alloc, shown),
             Form::Clear => self.reply_to_clear(alloc),
         }
-    }
-
-    /// Runs steps and commits what they leave, with the reply that gives the outcome.
-    fn reply_to_steps(
-        &mut self,
-        alloc: Global,
-        steps: &[Step],
-        how: Recording,
-        told: &mut Telling,
-    ) -> Result<Vec<u8>, NoMemory>
-        requires sound { All IsSound steps.now }
-        requires room { self.old.commits < last_u32 }
-        requires untold { told.old.change ≡ None }
-        ensures change { OnOk result (IsToldChange told.old.asked self.old told.new.change self.new) }
-        ensures replies { IfOk result (λ reply. IsReplyOfUpdate self.old steps.now how reply.items self.new) }
-        ensures commits { self.new.commits ≤ self.old.commits + 1 }
-        ensures unchanged { OnErr result (self.new ≡ with_nothing_pending self.old) }
-    {
-        let all = self.recording(how);
-        let draft = self.take_draft(alloc)?;
-        let verdict = self.judge(alloc, draft, steps)?;
-        self.reply(alloc, verdict, None, all, told)
-    }
-
-    /// Commits what is to be committed, with the reply that gives the outcome, and of a dispatch whether it was
-    /// handled.
-    pub(crate) fn reply(
-        &mut self,
-        alloc: Global,
-        verdict: Verdict,
-        handled: Option<bool>,
-        how: Recording,
-        told: &mut Telling,
-    ) -> Result<Vec<u8>, NoMemory>
-        requires room { self.old.commits < last_u32 }
-        requires untold { told.old.change ≡ None }
-        requires may { MayConclude self.old verdict }
-        ensures change { OnOk result (IsToldChange told.old.asked self.old told.new.change self.new) }
-        ensures replies { IfOk result (λ reply. (outcome : OutcomeOf) × IsConcluded self.old how verdict outcome self.new × (reply.items ≡ reply_text (reply_of handled (view_told self.new) outcome))) }
-        ensures commits { self.new.commits ≤ self.old.commits + 1 }
-        ensures unchanged { OnErr result (self.new ≡ self.old) }
-    {
-        match verdict {
-            Verdict::Commit {
-                frozen,
-                batch,
-                shown,
-            } => {
-                let reply = self.tell(alloc, &frozen.state, &batch, handled)?;
-                told.note_frozen(alloc, &self.state, &batch, &frozen, &shown)?;
-                self.commit(alloc, frozen, batch, shown, how)?;
-                Ok(reply)
-            }
-            Verdict::Turned {
-                turn,
-                state,
-                batch,
-                marks,
-            } => {
-                let reply = self.tell(alloc, &state, &batch, handled)?;
-                told.note(alloc, &self.state, &batch, marks)?;
-                self.commit_entry(alloc, turn, state, batch, how.moment)?;
-                Ok(reply)
-            }
-            Verdict::Refused { cause, step } => {
-                write_reply(alloc, &Reply::Refused { cause, step })
-            }
-            Verdict::Idle => write_reply(alloc, &Reply::Idle { handled }),
-        }
-    }
-
-    /// The reply to the commit of a state with these operations.
-    fn tell(
-        &self,
-        alloc: Global,
-        state: &State,
-        batch: &Batch,
-        handled: Option<bool>,
-    ) -> Result<Vec<u8>, NoMemory>
-        requires room { self.now.commits < last_u32 }
-        requires alone { roots state.now.links ≡ 0 ∷ [] }
-        requires order { IsForest state.now.links }
-        ensures { IfOk result (λ reply. reply.items ≡ reply_text (Committed (self.now.commits + 1) batch.now.ops handled (html_told self.now.tells_view state.now.links))) }
-    {
-        let view = view_of(alloc, state, self.tells_view)?;
-        write_commit(alloc, self.next_commit(), batch.ops(), handled, &view)
     }
 }

@@ -5,13 +5,13 @@ ghost use Rattle.std.specs.Prelude.{◌≡◌, IfOk};
 ghost use Rattle.lx_forest.specs.Lookups.{children_of};
 ghost use Rattle.lx_editor.specs.Judged.{with_leaves};
 
-use crate::change::Telling;
 use crate::editor::Editor;
 use crate::judging::{verdict_of, verdict_of_fault};
 use crate::leaving::rest;
 use crate::outcome::{Outcome, Verdict};
 use crate::reconciling::reconcile;
 use crate::recording::Recording;
+use crate::saying::{Outcomes, Saying};
 use lx_draft::Frozen;
 use lx_json::{export, import};
 use lx_links::Links;
@@ -40,10 +40,9 @@ impl Editor {
     ghost use Rattle.lx_marks.specs.Marks.{is_touched};
     ghost use Rattle.lx_json.specs.Exporting.{exported};
     ghost use Rattle.lx_json.specs.Back.{ReadsBack};
-    ghost use Rattle.lx_editor.specs.Follows.{IsReplyOfLoad};
+    ghost use Rattle.lx_editor.specs.declared.outcome.Outcome.{Outcome as OutcomeOf};
     ghost use Rattle.lx_editor.specs.Judged.{IsLeft, IsShownBy, HasGrown, IsJudged, IsWeighed, is_idle};
     ghost use Rattle.lx_editor.specs.Loaded.{IsLoaded, left_by_load};
-    ghost use Rattle.lx_editor.specs.Changes.{IsToldChange};
     ghost use Rattle.lx_editor.specs.Gathering.{recording};
     ghost use Rattle.lx_editor.specs.Updated.{left_of};
 
@@ -53,7 +52,6 @@ impl Editor {
     /// document, as `UnknownType`, `BadState` with the place as a JSON pointer, or `EmptyState`; as `TooLarge` where it is
     /// beyond a limit; and else as an update is. It is never idle. Updates that wait are dropped where it is committed.
     /// After a refusal, or where memory runs out, the editor is as it was.
-    #[tactic(auto, unfolding(crate::specs::Loaded::IsLoaded))]
     pub fn load(
         &mut self,
         alloc: Global,
@@ -66,27 +64,25 @@ impl Editor {
         ensures commits { self.new.commits ≤ self.old.commits + 1 }
         ensures unchanged { OnErr result (self.new ≡ self.old) }
     {
-        let verdict = self.judge_load(alloc, document)?;
-        self.conclude(alloc, verdict, Recording { tags, moment })
+        let mut outcomes = Outcomes;
+        self.load_saying(alloc, document, Recording { tags, moment }, &mut outcomes)
     }
 
-    /// The same, answered with the bytes of a reply, which is made before anything is committed.
-    pub(crate) fn reply_to_load(
+    /// The same, said by a sayer.
+    pub(crate) fn load_saying<S: Saying>(
         &mut self,
         alloc: Global,
         document: &Value,
         how: Recording,
-        told: &mut Telling,
-    ) -> Result<Vec<u8>, NoMemory>
+        sayer: &mut S,
+    ) -> Result<S::Said, NoMemory>
         requires room { self.old.commits < last_u32 }
-        requires untold { told.old.change ≡ None }
-        ensures change { OnOk result (IsToldChange told.old.asked self.old told.new.change self.new) }
-        ensures replies { IfOk result (λ reply. IsReplyOfLoad self.old (view document.now) how reply.items self.new) }
+        ensures loaded { IfOk result (λ said. (outcome : OutcomeOf) × IsLoaded self.old (view document.now) how outcome self.new × S.tells sayer.old None self.old outcome self.new said sayer.new) }
         ensures commits { self.new.commits ≤ self.old.commits + 1 }
         ensures unchanged { OnErr result (self.new ≡ self.old) }
     {
         let verdict = self.judge_load(alloc, document)?;
-        self.reply(alloc, verdict, None, how, told)
+        self.conclude(alloc, verdict, None, how, sayer)
     }
 
     /// What loading a document comes to. It changes nothing.

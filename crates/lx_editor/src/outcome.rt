@@ -3,6 +3,7 @@ use lx_host::Ops;
 use lx_marks::Marks;
 use lx_node::Cause;
 use lx_reconcile::Batch;
+use lx_run::Refusal;
 use lx_step::Turn;
 
 /// What a call made of an editor.
@@ -63,12 +64,20 @@ pub(crate) enum Verdict {
 }
 
 impl Verdict {
-    ghost use Rattle.std.specs.Prelude.{◌≡◌};
-    ghost use Rattle.lx_editor.specs.Judged as judged;
+    ghost use Rattle.std.specs.Prelude.{◌≡◌, ℕ, false, Option, IfOk, IfErr};
+    ghost use Rattle.lx_node.specs.declared.cause.Cause.{Cause as CauseOf};
+    ghost use Rattle.lx_run.specs.declared.refusal.Refusal.TheVariants as why;
+    ghost use Rattle.lx_editor.specs.declared.outcome.Verdict.TheVariants as verdicts;
+    ghost use Rattle.lx_editor.specs.Judged.{is_refused};
 
-    pub(crate) fn is_refused(&self) -> bool
-        ensures { result ≡ judged.is_refused self.now }
+    /// The verdict, or the refusal that it is.
+    pub(crate) fn or_refusal(self) -> Result<Verdict, Refusal>
+        ensures ok { IfOk result (λ verdict. (verdict ≡ self) × (is_refused verdict ≡ false)) }
+        ensures err { IfErr result (λ e. (cause : CauseOf) × (step : Option ℕ) × (e ≡ why.Cause cause step) × (self ≡ verdicts.Refused cause step)) }
     {
-        matches!(self, Verdict::Refused { .. })
+        match self {
+            Verdict::Refused { cause, step } => Err(Refusal::Cause { cause, step }),
+            verdict => Ok(verdict),
+        }
     }
 }

@@ -6,14 +6,15 @@ ghost use Rattle.lx_editor.specs.Editor.{built_in};
 ghost use Rattle.lx_editor.specs.Registered.{merging};
 ghost use Rattle.lx_editor.specs.Gathering.{recording};
 
-use crate::change::Telling;
 use crate::editor::Editor;
-use crate::outcome::{Outcome, Verdict};
+use crate::outcome::Outcome;
 use crate::recording::Recording;
+use crate::saying::{Outcomes, Saying, say_refusal};
 use lx_draft::Draft;
 use lx_node::{Cause, NoMemory};
 use lx_rules::{AnyRule, CellParagraph, ListMerge};
-use lx_step::{Rule, Tags};
+use lx_run::Refusal;
+use lx_step::{Rule, Tags, TypeRow};
 use std::alloc::Global;
 
 /// The most rules that an editor has: 256 that were registered, and the two that are built in.
@@ -42,15 +43,20 @@ fn merged_at(moment: u64) -> Recording
 }
 
 impl Editor {
-    ghost use Rattle.std.specs.Prelude.{◌+◌, ◌<◌, ◌≤◌, if◌then◌else◌, true, false, None, OnOk, OnErr};
+    ghost use Rattle.std.specs.Prelude.{ℕ, ◌+◌, ◌<◌, ◌≤◌, false, Option, None, OnOk, OnErr, IfErr};
+    ghost use Rattle.lx_node.specs.declared.cause.Cause.{Cause as CauseOf};
+    ghost use Rattle.lx_run.specs.declared.refusal.Refusal.TheVariants as why;
+    ghost use Rattle.lx_editor.specs.declared.outcome.Outcome.{Outcome as OutcomeOf};
+    ghost use Rattle.lx_editor.specs.declared.outcome.Verdict.{Verdict as VerdictOf};
+    ghost use Rattle.lx_editor.specs.declared.outcome.Verdict.TheVariants as verdicts;
+    ghost use Rattle.lx_editor.specs.Updated.{IsMadeOf};
     ghost use Rattle.lx_step.specs.declared.rule.Rule.{Rule as RuleOf};
     ghost use Rattle.lx_editor.specs.Editor.{Editor as EditorOf};
-    ghost use Rattle.lx_editor.specs.Registered.{IsRegistered, left_by_rule, left_for, unless_full, with_one_more, with_rule};
+    ghost use Rattle.lx_editor.specs.Registered.{IsRegistered, left_for, unless_full, with_one_more, with_rule};
     ghost use Rattle.lx_draft.specs.Covering.{AreCovered};
     ghost use Rattle.lx_editor.specs.Gathering.{started_of};
-    ghost use Rattle.lx_editor.specs.Judged.{IsJudged, is_refused};
-    ghost use Rattle.lx_editor.specs.Follows.{IsReplyOfRule};
-    ghost use Rattle.lx_editor.specs.Changes.{IsToldChange};
+    ghost use Rattle.lx_editor.specs.Judged.{IsConcluded, IsJudged, is_refused};
+    ghost use Rattle.lx_editor.specs.Changes.{IsUncommitted};
 
     /// Registers a rule after those that are registered. All nodes of its type in the tree are marked, which
     /// takes no count, and come to rest under all rules; what that makes of the state is committed, and goes into the
@@ -60,7 +66,6 @@ impl Editor {
     /// where the rules don't come to rest, and else as an update is. Updates that wait are taken in, as an update takes them
     /// in, but where the rule is one too many. Where memory runs out nothing is pending, and the editor is as it was in
     /// all else.
-    #[tactic(auto, unfolding(crate::specs::Registered::IsRegistered))]
     pub fn register_rule(
         &mut self,
         alloc: Global,
@@ -72,82 +77,86 @@ impl Editor {
         ensures commits { self.new.commits ≤ self.old.commits + 1 }
         ensures unchanged { OnErr result (self.new ≡ unless_full self.old) }
     {
-        let how = self.recording(merged_at(moment));
-        let verdict = self.judge_rule(alloc, rule)?;
-        let refused = verdict.is_refused();
-        match self.conclude(alloc, verdict, how) {
-            Ok(outcome) => Ok(outcome),
-            Err(error) => {
-                self.forget_unless(refused);
-                Err(error)
-            }
-        }
+        let mut outcomes = Outcomes;
+        self.register_saying(alloc, rule, moment, &mut outcomes)
     }
 
-    /// The same, answered with the bytes of a reply, which is made before anything is changed but the rules.
-    pub(crate) fn reply_to_rule(
+    /// The same, said by a sayer.
+    #[tactic(auto, unfolding(crate::specs::Registered::IsRegistered))]
+    pub(crate) fn register_saying<S: Saying>(
         &mut self,
         alloc: Global,
         rule: Rule,
         moment: u64,
-        told: &mut Telling,
-    ) -> Result<Vec<u8>, NoMemory>
+        sayer: &mut S,
+    ) -> Result<S::Said, NoMemory>
         requires room { self.old.commits < last_u32 }
-        requires untold { told.old.change ≡ None }
-        ensures change { OnOk result (IsToldChange told.old.asked self.old told.new.change self.new) }
-        ensures replies { IfOk result (λ reply. IsReplyOfRule self.old rule moment reply.items self.new) }
+        ensures registered { IfOk result (λ said. (outcome : OutcomeOf) × IsRegistered self.old rule moment outcome self.new × S.tells sayer.old None self.old outcome self.new said sayer.new) }
         ensures commits { self.new.commits ≤ self.old.commits + 1 }
         ensures unchanged { OnErr result (self.new ≡ unless_full self.old) }
     {
         let how = self.recording(merged_at(moment));
-        let verdict = self.judge_rule(alloc, rule)?;
-        let refused = verdict.is_refused();
-        match self.reply(alloc, verdict, None, how, told) {
-            Ok(reply) => Ok(reply),
-            Err(error) => {
-                self.forget_unless(refused);
-                Err(error)
-            }
-        }
-    }
-
-    /// What a rule comes to. It is after the others then, unless it is refused. What is pending is taken in, unless
-    /// there are too many rules; nothing else is changed.
-    fn judge_rule(&mut self, alloc: Global, rule: Rule) -> Result<Verdict, NoMemory>
-        ensures judged { IfOk result (IsJudged (left_by_rule self.old rule) (with_one_more rule (unless_full self.old))) }
-        ensures rules { IfOk result (λ verdict. self.new ≡ (if is_refused verdict then unless_full self.old else with_one_more rule (unless_full self.old))) }
-        ensures unchanged { OnErr result (self.new ≡ unless_full self.old) }
-    {
         if self.rules.len() >= MOST_RULES {
-            return Ok(Verdict::Refused {
-                cause: Cause::TooManyRules,
-                step: None,
-            });
+            return sayer.say_refused(alloc, Cause::TooManyRules, None);
         }
         let draft = self.take_draft(alloc)?;
-        self.judge_behind(alloc, draft, rule)
+        self.add_saying(alloc, draft, rule, how, sayer)
     }
 
-    /// What a rule comes to that is after the others, and stays there unless it is refused. Nothing else is changed.
-    fn judge_behind(&mut self, alloc: Global, draft: Draft, rule: Rule) -> Result<Verdict, NoMemory>
+    /// Puts a rule after the others, and commits what all of them come to where the nodes of its type are marked. The rule is
+    /// given up where that is refused, or where memory runs out.
+    fn add_saying<S: Saying>(
+        &mut self,
+        alloc: Global,
+        draft: Draft,
+        rule: Rule,
+        how: Recording,
+        sayer: &mut S,
+    ) -> Result<S::Said, NoMemory>
+        requires room { self.old.commits < last_u32 }
         requires covered { AreCovered (started_of self.old) draft }
-        ensures judged { IfOk result (IsJudged (left_for (with_rule self.old.rules rule) rule.on draft) (with_one_more rule self.old)) }
-        ensures rules { IfOk result (λ verdict. self.new ≡ (if is_refused verdict then self.old else with_one_more rule self.old)) }
+        ensures made { IfOk result (λ said. (outcome : OutcomeOf) × IsMadeOf (left_for (with_rule self.old.rules rule) rule.on draft) self.old how outcome self.new × ((old : EditorOf) → IsUncommitted old self.old → S.tells sayer.old None old outcome self.new said sayer.new)) }
+        ensures commits { self.new.commits ≤ self.old.commits + 1 }
         ensures unchanged { OnErr result (self.new ≡ self.old) }
     {
         let on = rule.on;
         self.add_rule(rule)?;
-        match self.judge_marked(alloc, draft, on) {
-            Ok(verdict) => {
-                if verdict.is_refused() {
-                    self.forget_rule();
-                }
-                Ok(verdict)
-            }
-            Err(error) => {
+        match self.conclude_marked(alloc, draft, on, how, sayer) {
+            Ok(said) => Ok(said),
+            Err(refusal) => {
                 self.forget_rule();
-                Err(error)
+                say_refusal(alloc, refusal, sayer)
             }
+        }
+    }
+
+    /// Commits what the rules come to where the nodes of a type are marked. A refusal isn't said here.
+    fn conclude_marked<S: Saying>(
+        &mut self,
+        alloc: Global,
+        draft: Draft,
+        on: TypeRow,
+        how: Recording,
+        sayer: &mut S,
+    ) -> Result<S::Said, Refusal>
+        requires room { self.old.commits < last_u32 }
+        requires covered { AreCovered (started_of self.old) draft }
+        ensures made { IfOk result (λ said. (verdict : VerdictOf) × (outcome : OutcomeOf) × IsJudged (left_for self.old.rules on draft) self.old verdict × (is_refused verdict ≡ false) × IsConcluded self.old how verdict outcome self.new × ((old : EditorOf) → IsUncommitted old self.old → S.tells sayer.old None old outcome self.new said sayer.new)) }
+        ensures refused { IfErr result (λ e. (cause : CauseOf) (step : Option ℕ) → e ≡ why.Cause cause step → IsJudged (left_for self.old.rules on draft) self.old (verdicts.Refused cause step) × (sayer.new ≡ sayer.old)) }
+        ensures commits { self.new.commits ≤ self.old.commits + 1 }
+        ensures unchanged { OnErr result (self.new ≡ self.old) }
+    {
+        let judged = match self.judge_marked(alloc, draft, on) {
+            Ok(judged) => judged,
+            Err(NoMemory) => return Err(Refusal::Memory),
+        };
+        let verdict = match judged.or_refusal() {
+            Ok(verdict) => verdict,
+            Err(refusal) => return Err(refusal),
+        };
+        match self.conclude(alloc, verdict, None, how, sayer) {
+            Ok(said) => Ok(said),
+            Err(NoMemory) => Err(Refusal::Memory),
         }
     }
 
@@ -158,17 +167,6 @@ impl Editor {
     {
         self.rules.push(AnyRule::Script(rule))?;
         Ok(())
-    }
-
-    /// Gives up the last rule, unless the rule was refused and isn't there.
-    fn forget_unless(&mut self, refused: bool)
-        ensures gone { refused ≡ false → (e : EditorOf) (rule : RuleOf) → self.old ≡ with_one_more rule e → self.new ≡ e }
-        ensures same { refused ≡ true → self.new ≡ self.old }
-    {
-        if refused {
-            return;
-        }
-        self.forget_rule();
     }
 
     /// Takes the last rule away.

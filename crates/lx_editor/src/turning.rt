@@ -8,6 +8,7 @@ use crate::outcome::{Outcome, Verdict};
 use crate::pending::forget;
 use crate::reconciling::{follow, reconcile};
 use crate::recording::Recording;
+use crate::saying::Outcomes;
 use lx_compare::differences_at;
 use lx_draft::State;
 use lx_history::History;
@@ -32,7 +33,7 @@ impl Editor {
     ghost use Rattle.lx_script.specs.declared.reply.Reply.TheVariants.{Cleared};
     ghost use Rattle.lx_editor.specs.Standing.{IsEntry, EachEntry};
     ghost use Rattle.lx_editor.specs.Gathering.{with_nothing_pending};
-    ghost use Rattle.lx_editor.specs.Turned.{IsTurned, IsTurnedAlone, with_nothing_recorded};
+    ghost use Rattle.lx_editor.specs.Turned.{IsTurned, IsTurnedAlone, IsTurnedBy, with_nothing_recorded};
     ghost use Rattle.lx_editor.specs.Judged.{MayTurn, IsTurnJudged};
 
     /// Goes back: the history's next entry is committed as it was recorded, its tree and its selection, whatever was
@@ -76,12 +77,28 @@ impl Editor {
                 step: None,
             });
         }
-        let verdict = self.judge_turn(alloc, turn)?;
         let how = Recording {
             tags: Tags::none(),
             moment,
         };
-        self.conclude(alloc, verdict, how)
+        self.turn_recorded(alloc, turn, how)
+    }
+
+    /// Goes to another state of the history where no lines are gathered.
+    fn turn_recorded(
+        &mut self,
+        alloc: Global,
+        turn: Turn,
+        how: Recording,
+    ) -> Result<Outcome, NoMemory>
+        requires room { self.old.commits < last_u32 }
+        ensures turned { IfOk result (λ outcome. IsTurnedBy turn how.moment self.old outcome self.new) }
+        ensures commits { self.new.commits ≤ self.old.commits + 1 }
+        ensures unchanged { OnErr result (self.new ≡ self.old) }
+    {
+        let verdict = self.judge_turn(alloc, turn)?;
+        let mut outcomes = Outcomes;
+        self.conclude(alloc, verdict, None, how, &mut outcomes)
     }
 
     /// What an undo or a redo comes to. It changes nothing.

@@ -1,5 +1,8 @@
-use Rattle.lx_editor.proofs.Waiting.{still_pending}
+use Rattle.lx_editor.specs.Gathering.{IsDeferred}
+use Rattle.lx_editor.proofs.Said.{outcome_said}
 use Rattle.lx_editor.proofs.editor.Editor.defer.Goals as goal
 
-pub keep-requires : goal.keep-requires
-keep-requires c = still_pending c.args.self.now c.gather.new.self c.in-Ok.gathered.value c.gather.ensures.taken c.in-Ok.ensures.pending
+pub returns-clause-deferred : goal.returns-clause-deferred
+returns-clause-deferred c =
+    outcome_said c.defer_saying.result (λ outcome. IsDeferred c.args.self.now c.args.steps.now c.args.tags outcome c.defer_saying.new.self)
+    c.defer_saying.ensures.deferred

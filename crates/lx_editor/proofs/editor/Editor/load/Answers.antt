@@ -1,22 +1,11 @@
 use Rattle.serde_json.specs.View.{view}
 use Rattle.lx_editor.specs.Gathering.{recording}
-use Rattle.lx_editor.specs.Loaded.{IsLoaded, left_by_load}
-use Rattle.lx_editor.proofs.Judged.{may_conclude, concluded, never_idle}
-use Rattle.lx_editor.proofs.Told.{told}
+use Rattle.lx_editor.specs.Loaded.{IsLoaded}
+use Rattle.lx_editor.proofs.Said.{outcome_said}
 use Rattle.lx_editor.proofs.editor.Editor.load.Goals as goal
 
-pub conclude-requires-clause-may : goal.conclude-requires-clause-may
-conclude-requires-clause-may c =
-    may_conclude (left_by_load c.args.self.now (view c.args.document.now)) c.args.self.now c.in_ok-verdict.verdict c.in_ok-verdict.ensures.judged
-
 pub returns-clause-loaded : goal.returns-clause-loaded
-unfolding IsLoaded
 returns-clause-loaded c =
-    let old = c.args.self.now in
-    let verdict = c.in_ok-verdict.verdict in
-    let ensured = c.in_ok-verdict.ensures in
-    told c.conclude.result _ _ c.conclude.ensures.concluded
-    (λ outcome done. (
-      concluded (recording c.args.tags c.args.moment) (left_by_load old (view c.args.document.now)) old verdict outcome c.conclude.new.self ensured.judged done,
-      never_idle (recording c.args.tags c.args.moment) old verdict outcome c.conclude.new.self ensured.anew done,
-    ))
+    outcome_said c.load_saying.result
+    (λ outcome. IsLoaded c.args.self.now (view c.args.document.now) (recording c.args.tags c.args.moment) outcome c.load_saying.new.self)
+    c.load_saying.ensures.loaded

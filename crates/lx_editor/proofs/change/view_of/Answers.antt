@@ -1,6 +1,6 @@
 use Rattle.std.proofs.Common.{◌≡◌, ◌∙◌, ℕ, Bool, true, false, if◌then◌else◌, List, Option, None, Some, ap}
 use Rattle.lx_editor.proofs.Updated.{told_view}
-use Rattle.lx_editor.proofs.line.view_of.Goals as goal
+use Rattle.lx_editor.proofs.change.view_of.Goals as goal
 
 told_if : (told : Bool) (x y : List ℕ) → told ≡ true → x ≡ y → ◌≡◌ {A = Option (List ℕ)} (Some x) (if told then Some y else None)
 told_if true x y is e = ap (λ t. Some t) e
