@@ -89,7 +89,15 @@ IsUnended-new options session new = subst IsUnended (sym new.pending) IsUnended-
 pub spent-end : (options : Options) (a b : Moment) (read : List ℕ) → IsNew options a.session → IsEnd input_limit read a b → spent b.session.served < last_u32
 spent-end options a b read new p =
     let waits = a.session.pending.items in
-    omega (arith, length-ended-le (waits ++ read), length-append waits read, ap length new.pending, ap spent new.served ∙ spent_new options, p.taken.answered.few, p.within)
+    omega (
+      arith,
+      length-ended-le (waits ++ read),
+      length-append waits read,
+      ap length new.pending,
+      ap spent new.served ∙ spent_new options,
+      p.taken.answered.few,
+      p.within,
+    )
 
 module _ (words : List (List ℕ)) (is_taken : are_taken words ≡ true) where
   -- so it ended, whatever was written
@@ -123,8 +131,11 @@ module _ (words : List (List ℕ)) (is_taken : are_taken words ≡ true) where
             taken = is_taken;
             at_end = p.source.at_end;
             short = p.within;
-            follows =
-                (end, FollowsInTo-append (served_with words) b.session.served end (ended read) (last_line (unended read)) lines.written last.written lines.follows last.follows);
+            follows = (
+              end,
+              FollowsInTo-append (served_with words) b.session.served end (ended read) (last_line (unended read)) lines.written last.written
+                  lines.follows last.follows,
+            );
             faultless = record { source = p.source.faults; sink = sink.faults };
           };
           consumes = p.source.consumes;

@@ -142,9 +142,10 @@ pub record HasNoFault (run : Seen) : Type 0 where
   pub source : run.source_before.faults < last_count
   pub sink : run.sink_before.faults < last_count
 
--- A run that ended so, where it is said which bytes may be the replies to which lines. What it read is gone from the source, and what it wrote went to the sink. It reads at most one
--- byte more than the limit. The calls are at most one more than the bytes: reads than were read, writes than were written.
--- Where the arguments are taken, and there are no fault and not too many bytes, it is done, unless memory ran out.
+-- A run that ended so, where it is said which bytes may be the replies to which lines. What it read is gone from the source,
+-- and what it wrote went to the sink. It reads at most one byte more than the limit. The calls are at most one more than the
+-- bytes: reads than were read, writes than were written. Where the arguments are taken, and there are no fault and not too many
+-- bytes, it is done, unless memory ran out.
 pub record IsAnsweredRun (AreReplies : List (List ℕ) → List ℕ → Type 0) (status : Status) (run : Seen) : Type 0 where
   pub ends : Ends AreReplies status run
   pub consumes : Consumes run.source_before.left run.source_after.left run.read

@@ -1,4 +1,4 @@
-ghost use Rattle.std.specs.Prelude.{◌≡◌, ◌≢◌, ℕ, List, map, string_bytes};
+ghost use Rattle.std.specs.Prelude.{◌≢◌, ℕ, List, map, string_bytes};
 ghost use Rattle.lx_cli.specs.Generating.{RunsAsAsked};
 ghost use Rattle.lx_cli.specs.Run.{sink_seen};
 ghost use Rattle.lx_cli.specs.Sure.{sure_seen};

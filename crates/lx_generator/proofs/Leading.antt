@@ -1,5 +1,5 @@
 -- Commands that are dispatched one after another.
-use Rattle.std.proofs.Common.{◌≡◌, ◌<◌, ◌≤◌, ℕ, suc, ◌+◌, ◌-◌, Bool, refl, sym, ap, ◌∙◌, subst, arith}
+use Rattle.std.proofs.Common.{◌≡◌, ◌<◌, ℕ, suc, ◌+◌, ◌-◌, Bool, sym, ap, ◌∙◌, subst, arith}
 use Rattle.lx_step.specs.Lines.{untagged}
 use Rattle.lx_step.specs.declared.command.Command.{Command}
 use Rattle.lx_step.specs.declared.line.Tags.{Tags}
@@ -41,9 +41,3 @@ one_more count x old t line y z mid next u v command tags outcome handled less c
     let more = one_more_from count x old t line y mid next u outcome handled less comes same in
     subst (λ (n : ℕ). ComeTo count x old t (count - (line + 1)) n next v) (sym number)
     (subst (λ (w : Tally). ComeTo count x old t (count - (line + 1)) (next_number y) next w) (sym tally) more)
-
-pub all_done : (count x : ℕ) (old : Editor) (t : Tally) (line y : ℕ) (mid : Editor) (u : Tally) → count ≤ line
-    → ComeTo count x old t (count - line) y mid u → LeadTo (commands_behind count x) old t mid u
-all_done count x old t line y mid u past comes =
-    let none : 0 ≡ count - line = omega arith in
-    comes.come mid u (subst (λ (n : ℕ). Leads n y mid u mid u) none (refl, refl))

@@ -1,5 +1,5 @@
 -- What the summary says of the state at a session's end.
-use Rattle.std.proofs.Common.{◌≡◌, ◌∙◌, ℕ, false, List, length, subst, ◌-◌, ◌^◌, ◌<◌, ◌≤◌, [], ◌∷◌, refl, ap, arith}
+use Rattle.std.proofs.Common.{◌≡◌, ◌∙◌, ℕ, false, List, length, subst, [], ◌∷◌, refl, ap, arith}
 use Rattle.std.specs.Prelude.{min}
 use Rattle.serde_json.specs.Data.{Data}
 use Rattle.serde_json.specs.Written.{compact_text, has_float}

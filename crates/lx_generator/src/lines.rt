@@ -1,7 +1,7 @@
 //! The lines of a session: each has a number, which the number before it gives, and its upper half says what the line
 //! does.
 
-ghost use Rattle.std.specs.Prelude.{◌≡◌, ◌<◌, All, IfOk, chars, string_bytes};
+ghost use Rattle.std.specs.Prelude.{◌≡◌, ◌<◌, All, IfOk, chars};
 ghost use Rattle.lx_step.specs.Sound.{IsSound};
 ghost use Rattle.lx_generator.specs.Sessions as sessions;
 

@@ -2,8 +2,7 @@
 
 ghost use Rattle.std.specs.Prelude.{◌≡◌, ◌+◌, ◌<◌, ◌≤◌, IfOk, OnOk};
 ghost use Rattle.lx_node.specs.Limits.{last_u32};
-ghost use Rattle.lx_generator.specs.Sessions.{IsSession, IsTold, LeadTo, commands_behind, next_number as number_behind, summary_of};
-ghost use Rattle.lx_editor.specs.Editor.{new_editor};
+ghost use Rattle.lx_generator.specs.Sessions.{IsSession, IsTold, LeadTo, commands_behind, summary_of};
 
 use crate::lines::{command_of, first_steps, next_number};
 use crate::summary::{Summary, write_summary};

@@ -1,16 +1,14 @@
 -- A hub that takes an editor's last commit.
-use Rattle.std.proofs.Common.{◌≡◌, ◌≢◌, ◌∙◌, ap, sym, subst, refl, ℕ, List, [], ◌∷◌, codes, Option, None, Some, Ok, Err, arith}
+use Rattle.std.proofs.Common.{◌≡◌, ◌∙◌, ap, sym, subst, refl, ℕ, List, [], ◌∷◌, codes, Option, None, Some, Ok, Err, arith}
 use Rattle.serde_json.specs.Data.{Data}
-use Rattle.lx_node.specs.declared.cause.Cause.{Cause}
 use Rattle.lx_node.specs.declared.cause.Cause.TheVariants.{BadLine}
-use Rattle.lx_node.specs.declared.cause.Fault.TheVariants as fault
+use Rattle.lx_node.specs.declared.cause.Fault.{Fault}
+use Rattle.lx_node.specs.declared.cause.Fault.TheVariants.{Cause, Memory}
 use Rattle.lx_host.specs.declared.op.Op.{Op}
 use Rattle.lx_host.specs.Hosts.{HostTree, effect, FitInTurn, Leads}
 use Rattle.lx_step.specs.declared.line.Line.{Line}
 use Rattle.lx_reconcile.specs.Told.{Told}
-use Rattle.lx_script.specs.declared.reply.Reply.TheVariants as reply
 use Rattle.lx_script.specs.Grammar.{IsJson, Makes, TellsNoJson}
-use Rattle.lx_script.specs.Replies.{reply_text}
 use Rattle.lx_script.proofs.Reading.{tells_of_json, tells_of_no_json}
 use Rattle.lx_editor.specs.Editor.{Editor}
 use Rattle.lx_editor.specs.Follows.{Answers, RepliesToLine}
@@ -19,7 +17,7 @@ use Rattle.lx_hub.proofs.Following.{leads_there}
 use Rattle.lx_layers.specs.Asked.{IsOther, sole_member}
 use Rattle.lx_layers.specs.Replies.{hub_after_line}
 use Rattle.lx_layers.specs.Served.{AreLevel, AnswersIn, about_views, beside_views, IsFollowedBy, with_hub}
-use Rattle.lx_layers.specs.Passing.{IsAhead, AnswersMember, AnswersValue}
+use Rattle.lx_layers.specs.Passing.{IsRefusal, IsAhead, AnswersMember, AnswersValue}
 
 -- ---- the batch
 
@@ -65,27 +63,30 @@ unfolding Answers
 answers_line old new bytes reply value line is made replies = (Ok line, tells_of_json bytes value (Ok line) is made, replies)
 
 -- a value that asks for nothing
-pub answers_refused : (old new : Editor) (bytes text : List ℕ) (value : Data) (cause : Cause) → IsJson bytes value → Makes value (Err (fault.Cause cause))
-    → text ≡ reply_text (reply.Refused cause None) → new ≡ old → Answers old bytes text new
+pub answers_refused : (old new : Editor) (bytes text : List ℕ) (value : Data) (fault : Fault) → IsJson bytes value → Makes value (Err fault)
+    → IsRefusal fault text → new ≡ old → Answers old bytes text new
 unfolding Answers
-answers_refused old new bytes text value cause is made told same = (Err cause, tells_of_json bytes value (Err (fault.Cause cause)) is made, (told, same))
+answers_refused old new bytes text value (Cause cause) is made told same = (Err cause, tells_of_json bytes value (Err (Cause cause)) is made, (told, same))
+answers_refused old new bytes text value Memory is made told same = absurd told
 
 -- bytes that are no JSON
-pub answers_no_json : (old new : Editor) (bytes text : List ℕ) (cause : Cause) → TellsNoJson bytes (fault.Cause cause)
-    → text ≡ reply_text (reply.Refused cause None) → new ≡ old → Answers old bytes text new
+pub answers_no_json : (old new : Editor) (bytes text : List ℕ) (fault : Fault) → TellsNoJson bytes fault → IsRefusal fault text → new ≡ old
+    → Answers old bytes text new
 unfolding Answers
-answers_no_json old new bytes text cause refused told same = (Err cause, tells_of_no_json bytes (fault.Cause cause) refused, (told, same))
+answers_no_json old new bytes text (Cause cause) refused told same = (Err cause, tells_of_no_json bytes (Cause cause) refused, (told, same))
+answers_no_json old new bytes text Memory refused told same = absurd told
 
 -- no line of a layer's own
-pub no_json_other : (name bytes : List ℕ) (cause : Cause) → TellsNoJson bytes (fault.Cause cause) → IsOther name bytes
-no_json_other name bytes BadLine refused = λ value is. absurd (refused value is)
-no_json_other name bytes other refused = absurd refused
+pub no_json_other : (name bytes text : List ℕ) (fault : Fault) → TellsNoJson bytes fault → IsRefusal fault text → IsOther name bytes
+no_json_other name bytes text (Cause BadLine) refused told = λ value is. absurd (refused value is)
+no_json_other name bytes text (Cause other) refused told = absurd refused
+no_json_other name bytes text Memory refused told = absurd told
 
-pub beside_no_json : (old new : Editor) (h g : Hub) (bytes text : List ℕ) (cause : Cause) → TellsNoJson bytes (fault.Cause cause)
-    → text ≡ reply_text (reply.Refused cause None) → new ≡ old → g ≡ h → AnswersIn (with_hub old h) bytes text (with_hub new g)
-beside_no_json old new h g bytes text cause refused told same still =
-    beside_views old new h g bytes text (no_json_other (codes "hub") bytes cause refused) (answers_no_json old new bytes text cause refused told same)
-    (followed_still old new h g same still)
+pub beside_no_json : (old new : Editor) (h g : Hub) (bytes text : List ℕ) (fault : Fault) → TellsNoJson bytes fault → IsRefusal fault text → new ≡ old
+    → g ≡ h → AnswersIn (with_hub old h) bytes text (with_hub new g)
+beside_no_json old new h g bytes text fault refused told same still =
+    beside_views old new h g bytes text (no_json_other (codes "hub") bytes text fault refused told)
+    (answers_no_json old new bytes text fault refused told same) (followed_still old new h g same still)
 
 -- ---- lines by their values
 

@@ -1,16 +1,13 @@
 -- An outline that follows an editor.
 use Rattle.std.proofs.Common.{◌≡◌, ◌∙◌, ap, sym, subst, refl, ℕ, List, codes, Option, None, Some, arith}
 use Rattle.serde_json.specs.Data.{Data}
-use Rattle.lx_node.specs.declared.cause.Cause.{Cause}
-use Rattle.lx_node.specs.declared.cause.Fault.TheVariants as fault
-use Rattle.lx_script.specs.declared.reply.Reply.TheVariants as reply
+use Rattle.lx_node.specs.declared.cause.Fault.{Fault}
 use Rattle.lx_script.specs.Grammar.{IsJson, TellsNoJson}
-use Rattle.lx_script.specs.Replies.{reply_text}
 use Rattle.lx_outline.specs.Outline.{IsOutlineOf}
 use Rattle.lx_editor.specs.Editor.{Editor}
 use Rattle.lx_layers.specs.Asked.{sole_member}
 use Rattle.lx_layers.specs.Outlining.{OutlinedView}
-use Rattle.lx_layers.specs.Passing.{NotesMember, NotesValue}
+use Rattle.lx_layers.specs.Passing.{IsRefusal, NotesMember, NotesValue}
 use Rattle.lx_layers.specs.Served.{AnswersIn, about_outline, beside_outline, IsNotedBy, with_outline}
 use Rattle.lx_layers.proofs.Following.{answers_no_json, no_json_other, one_value}
 
@@ -26,12 +23,11 @@ noted_still old new o p same still kept = record {
 
 -- ---- lines by their values
 
-pub noted_no_json : (old new : Editor) (o p : OutlinedView) (bytes text : List ℕ) (cause : Cause) → TellsNoJson bytes (fault.Cause cause)
-    → text ≡ reply_text (reply.Refused cause None) → new ≡ old → p ≡ o → IsOutlineOf o.outline old.tree
-    → AnswersIn (with_outline old o) bytes text (with_outline new p)
-noted_no_json old new o p bytes text cause refused told same still kept =
-    beside_outline old new o p bytes text (no_json_other (codes "ask") bytes cause refused) (answers_no_json old new bytes text cause refused told same)
-    (noted_still old new o p same still kept)
+pub noted_no_json : (old new : Editor) (o p : OutlinedView) (bytes text : List ℕ) (fault : Fault) → TellsNoJson bytes fault → IsRefusal fault text
+    → new ≡ old → p ≡ o → IsOutlineOf o.outline old.tree → AnswersIn (with_outline old o) bytes text (with_outline new p)
+noted_no_json old new o p bytes text fault refused told same still kept =
+    beside_outline old new o p bytes text (no_json_other (codes "ask") bytes text fault refused told)
+    (answers_no_json old new bytes text fault refused told same) (noted_still old new o p same still kept)
 
 noted_member : (asked : Option Data) (old new : Editor) (o p : OutlinedView) (bytes text : List ℕ) (value : Data) → IsJson bytes value
     → sole_member (codes "ask") value ≡ asked → NotesMember asked value old o text new p → AnswersIn (with_outline old o) bytes text (with_outline new p)

@@ -1,9 +1,13 @@
 -- How a hub, or an outline, follows an editor. Only this crate's own contracts cite it.
 use Rattle.std.specs.Prelude.{◌≡◌, ◌≢◌, ℕ, ◌+◌, List, codes, Option, None, Some}
 use Rattle.serde_json.specs.Data.{Data}
+use Rattle.lx_node.specs.declared.cause.Fault.{Fault}
+use Rattle.lx_node.specs.declared.cause.Fault.TheVariants.{Cause, Memory}
 use Rattle.lx_host.specs.Hosts.{Leads}
 use Rattle.lx_reconcile.specs.Told.{Told}
+use Rattle.lx_script.specs.declared.reply.Reply.TheVariants.{Refused}
 use Rattle.lx_script.specs.Grammar.{IsJson}
+use Rattle.lx_script.specs.Replies.{reply_text}
 use Rattle.lx_hub.specs.Hub.{Hub}
 use Rattle.lx_editor.specs.Editor.{Editor}
 use Rattle.lx_editor.specs.Follows.{Answers}
@@ -11,6 +15,11 @@ use Rattle.lx_layers.specs.Asked.{sole_member}
 use Rattle.lx_layers.specs.Replies.{views_text, hub_after_line}
 use Rattle.lx_layers.specs.Outlining.{OutlinedView, outline_text}
 use Rattle.lx_layers.specs.Served.{AreLevel, IsFollowedBy, IsNotedBy}
+
+-- a reply to what is refused for a fault, and for no step: none is where memory ran out
+abbrev pub IsRefusal : Fault → List ℕ → Type 0
+IsRefusal (Cause cause) text = text ≡ reply_text (Refused cause None)
+IsRefusal Memory text = ⊥
 
 -- The editor has one commit more than the hub has batches, and its last operations lead from the hub's tip to its view.
 pub record IsAhead (e : Editor) (h : Hub) : Type 0 where

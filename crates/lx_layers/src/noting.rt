@@ -13,17 +13,19 @@ ghost use Rattle.lx_layers.specs.Passing.{NotesValue};
 
 use crate::asking::sole_member;
 use crate::outlined::Outlined;
+use crate::refusing::refuse_for;
 use crate::telling::answer_about_outline;
 use lx_draft::State;
 use lx_editor::Editor;
-use lx_node::{Fault, NoMemory};
-use lx_script::{Reply, line_of, read_value, write_reply};
+use lx_node::NoMemory;
+use lx_script::{line_of, read_value};
 use lx_step::Line;
 use lx_value::Room;
 use serde_json::Value;
 use std::alloc::Global;
 
 /// Answers a line of bytes, which is about the outline or goes to the editor.
+#[tactic(auto, using(crate::proofs::Noted::noted_value, crate::proofs::Noted::noted_no_json))]
 pub(crate) fn answer_beside_outline(
     alloc: Global,
     editor: &mut Editor,
@@ -39,8 +41,7 @@ pub(crate) fn answer_beside_outline(
 {
     match read_value(alloc, line, room) {
         Ok(value) => answer_value(alloc, editor, outlined, value),
-        Err(Fault::Cause(cause)) => write_reply(alloc, &Reply::Refused { cause, step: None }),
-        Err(Fault::Memory) => Err(NoMemory),
+        Err(fault) => refuse_for(alloc, fault),
     }
 }
 
@@ -64,6 +65,7 @@ fn answer_value(
 }
 
 /// Has the editor answer the value of a line, and the outline follow what that committed.
+#[tactic(auto, using(crate::proofs::Following::answers_line, crate::proofs::Following::answers_refused))]
 fn pass_on(
     alloc: Global,
     editor: &mut Editor,
@@ -78,8 +80,7 @@ fn pass_on(
 {
     match line_of(alloc, value) {
         Ok(line) => pass_line(alloc, editor, outlined, line),
-        Err(Fault::Cause(cause)) => write_reply(alloc, &Reply::Refused { cause, step: None }),
-        Err(Fault::Memory) => Err(NoMemory),
+        Err(fault) => refuse_for(alloc, fault),
     }
 }
 

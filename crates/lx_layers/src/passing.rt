@@ -11,17 +11,19 @@ ghost use Rattle.lx_layers.specs.Served.{AnswersIn, AreLevel, IsFollowedBy, ops_
 ghost use Rattle.lx_layers.specs.Passing.{AnswersValue, IsAhead, MayFollow};
 
 use crate::asking::sole_member;
+use crate::refusing::refuse_for;
 use crate::views::answer_about_views;
 use lx_editor::Editor;
 use lx_hub::Hub;
-use lx_node::{Fault, NoMemory};
-use lx_script::{Reply, line_of, read_value, write_reply};
+use lx_node::NoMemory;
+use lx_script::{line_of, read_value};
 use lx_step::Line;
 use lx_value::Room;
 use serde_json::Value;
 use std::alloc::Global;
 
 /// Answers a line of bytes, which is one of the hub's own or goes to the editor.
+#[tactic(auto, using(crate::proofs::Following::beside_value, crate::proofs::Following::beside_no_json))]
 pub(crate) fn answer_beside(
     alloc: Global,
     editor: &mut Editor,
@@ -38,8 +40,7 @@ pub(crate) fn answer_beside(
 {
     match read_value(alloc, line, room) {
         Ok(value) => answer_value(alloc, editor, hub, value),
-        Err(Fault::Cause(cause)) => write_reply(alloc, &Reply::Refused { cause, step: None }),
-        Err(Fault::Memory) => Err(NoMemory),
+        Err(fault) => refuse_for(alloc, fault),
     }
 }
 
@@ -64,6 +65,7 @@ fn answer_value(
 }
 
 /// Has the editor answer the value of a line, and the hub take what that committed.
+#[tactic(auto, using(crate::proofs::Following::answers_line, crate::proofs::Following::answers_refused))]
 fn pass_on(
     alloc: Global,
     editor: &mut Editor,
@@ -80,8 +82,7 @@ fn pass_on(
 {
     match line_of(alloc, value) {
         Ok(line) => pass_line(alloc, editor, hub, line),
-        Err(Fault::Cause(cause)) => write_reply(alloc, &Reply::Refused { cause, step: None }),
-        Err(Fault::Memory) => Err(NoMemory),
+        Err(fault) => refuse_for(alloc, fault),
     }
 }
 

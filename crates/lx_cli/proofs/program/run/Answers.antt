@@ -52,8 +52,11 @@ returns-in-Err-Usage g c =
     let words = map string_bytes c.args.words.now in
     let source = source_seen g.S.Source.left g.S.Source.faults g.S.Source.reads c.args.source.now in
     let sink = sink_seen g.K.Sink.taken g.K.Sink.faults g.K.Sink.writes c.args.sink.now in
-    let refused = rw c.in-Err-Usage.field-0-is at c.in-Err-Usage.ensures.usage in
-    ([], [], RunsAsAsked-refused _ (worded words [] [] source source sink sink) refused (IsAnsweredRun-usage (Follows (begun_with words)) words source sink refused))
+    let refused = rw c.in-Err-Usage.field-0-is at c.in-Err-Usage.ensures.usage in (
+      [],
+      [],
+      RunsAsAsked-refused _ (worded words [] [] source source sink sink) refused (IsAnsweredRun-usage (Follows (begun_with words)) words source sink refused),
+    )
 
 pub returns-in-Err-Memory : goal.returns-in-Err-Memory
 returns-in-Err-Memory g c = (
