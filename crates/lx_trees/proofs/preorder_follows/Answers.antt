@@ -2,8 +2,4 @@ use Rattle.lx_trees.proofs.InPreorder.{preorder-with_new, preorder-take_out, pre
 use Rattle.lx_trees.proofs.preorder_follows.Goals as goal
 
 pub returns : goal.returns
-returns g c = λ name. record {
-  new = preorder-with_new name;
-  take = preorder-take_out name;
-  put = preorder-put_in name;
-}
+returns g c = λ name. record { new = preorder-with_new name; take = preorder-take_out name; put = preorder-put_in name }
