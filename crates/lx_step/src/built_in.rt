@@ -157,7 +157,7 @@ impl TableCommand {
     }
 }
 
-/// What a table of names says of a name.
+/// What a table of words says of a word: what stands beside the first one that is equal, if one is.
 pub fn row_of<T: Copy>(rows: &[(&str, T)], name: &str) -> Option<T>
     ensures { result ≡ built_ins.row_of (map (λ row. (chars row.0.now, row.1)) rows.now) (chars name.now) }
 {

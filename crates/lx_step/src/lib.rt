@@ -14,7 +14,7 @@ mod reference;
 mod rule;
 mod step;
 
-pub use built_in::{BuiltIn, CaretCommand, ListCommand, TableCommand, Turn};
+pub use built_in::{BuiltIn, CaretCommand, ListCommand, TableCommand, Turn, row_of};
 pub use command::{Command, Payload};
 pub use line::{Form, Line, Shown, Tags};
 pub use listener::{Listener, When};
