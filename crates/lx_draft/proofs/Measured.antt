@@ -23,12 +23,12 @@ pub record IsMeasured (f : Forest) (deepest : ℕ) (at : Option (ℕ × ℕ)) (w
 -- ---- one key more
 
 -- the keys from one on are that one and those from the next one on
-left-step : (o : Option (ℕ × ℕ)) (f : Forest) (q : ℕ) → IfSome o (λ next. from f q ≡ q ∷ from f next.0) → IfNone o (from f q ≡ q ∷ [])
+pub left-step : (o : Option (ℕ × ℕ)) (f : Forest) (q : ℕ) → IfSome o (λ next. from f q ≡ q ∷ from f next.0) → IfNone o (from f q ≡ q ∷ [])
     → from f q ≡ q ∷ left_from f o
 left-step None f q next last = last
 left-step (Some at) f q next last = next
 
-at_next : (o : Option (ℕ × ℕ)) (f : Forest) → IfSome o (λ next. depth f next.0 ≡ Some next.1) → IsAt f o
+pub at_next : (o : Option (ℕ × ℕ)) (f : Forest) → IfSome o (λ next. depth f next.0 ≡ Some next.1) → IsAt f o
 at_next None f h = tt
 at_next (Some at) f h = h
 

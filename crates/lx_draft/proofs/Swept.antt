@@ -25,7 +25,7 @@ use Rattle.lx_draft.specs.Working.{Working, IsWorking, MayStart}
 use Rattle.lx_draft.specs.Drafted.{IsDrafted}
 use Rattle.lx_draft.specs.Selecting.{selection_lost}
 use Rattle.lx_draft.specs.Faults.{over}
-use Rattle.lx_draft.specs.Freezing.{freeze_fault, tree_depth, tree_characters}
+use Rattle.lx_draft.specs.Freezing.{freeze_fault, limits_fault, tree_depth, tree_characters}
 
 -- ---- the invariant
 
@@ -81,19 +81,23 @@ within : (limit : Limit) (most n : ℕ) → most < 2 ^ 64 - 1 → over limit mos
 unfolding capped
 within limit most n small h = grind (arith, nat_tests)
 
--- a draft that nothing keeps from being committed leaves a forest from which an update may start
-pub may_start : (w : Working) → IsWorking w → IsForest w.forest → drop_detached w.forest ≡ w.forest → freeze_fault w ≡ None → MayStart w.forest w.next_key
-may_start w i h same none =
-    let limits = none_then (selection_lost w.selection w.forest) _ none in
-    let wide = none_then (over Depth most_depth (tree_depth w.forest)) _ limits in
-    let long = none_then (over Nodes most_nodes (total w.forest)) _ wide in
-    let last = none_then (over Characters most_characters (tree_characters w.forest)) _ long in
+-- from a forest that is beyond no limit an update may start
+pub within_limits : (f : Forest) (next : ℕ) → IsForest f → ((q : ℕ) → next ≤ q → has q f ≡ false) → drop_detached f ≡ f → limits_fault f next ≡ None
+    → MayStart f next
+within_limits f next h free same none =
+    let wide = none_then (over Depth most_depth (tree_depth f)) _ none in
+    let long = none_then (over Nodes most_nodes (total f)) _ wide in
+    let last = none_then (over Characters most_characters (tree_characters f)) _ long in
     record {
-      next = within KeyCount most_key w.next_key (omega arith) last;
-      free = i.free;
-      few = within Nodes most_nodes (total w.forest) (omega arith) (none_first (over Nodes most_nodes (total w.forest)) _ wide);
-      whole = λ q there. whole_of w.forest q h same there;
+      next = within KeyCount most_key next (omega arith) last;
+      free = free;
+      few = within Nodes most_nodes (total f) (omega arith) (none_first (over Nodes most_nodes (total f)) _ wide);
+      whole = λ q there. whole_of f q h same there;
       shallow =
           λ q d at. omega
-          (arith, le-tree_depth w.forest q d at, within Depth most_depth (tree_depth w.forest) (omega arith) (none_first (over Depth most_depth (tree_depth w.forest)) _ limits));
+          (arith, le-tree_depth f q d at, within Depth most_depth (tree_depth f) (omega arith) (none_first (over Depth most_depth (tree_depth f)) _ none));
     }
+
+-- a draft that nothing keeps from being committed leaves such a forest
+pub may_start : (w : Working) → IsWorking w → IsForest w.forest → drop_detached w.forest ≡ w.forest → freeze_fault w ≡ None → MayStart w.forest w.next_key
+may_start w i h same none = within_limits w.forest w.next_key h i.free same (none_then (selection_lost w.selection w.forest) _ none)
