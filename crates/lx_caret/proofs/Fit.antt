@@ -27,7 +27,7 @@ use Rattle.lx_forest.proofs.Edits.{is_some-spot}
 use Rattle.lx_forest.proofs.Held.{IsHeld-with_new, IsHeld-with_fields, IsHeld-put_in}
 use Rattle.lx_forest.proofs.Lookups.{label_of-put_in}
 use Rattle.lx_forest.proofs.Within.{is_within-with_fields, is_attached-with_new, is_attached-put_in}
-use Rattle.lx_links.specs.Faults.{unknown, misfit, bound_to, wrong_fields, set_fault}
+use Rattle.lx_links.specs.Faults.{unknown, bound_to, wrong_fields, set_fault}
 use Rattle.lx_draft.specs.Working.{Working}
 use Rattle.lx_draft.specs.Covering.{IsReady, KindsStay}
 use Rattle.lx_draft.specs.Selecting.{text_of, lies_in, length_told}
@@ -35,7 +35,7 @@ use Rattle.lx_draft.specs.Faults.{answer, after, over_counts, over_limits, put_f
 use Rattle.lx_draft.specs.Steps.{made, with_piece, new_step, fields_written, set_points, set_step, splice_points, label_with_piece, text_replaced, splice_step, node_placed, put_step}
 use Rattle.lx_draft.proofs.Covered.{answered}
 use Rattle.lx_draft.proofs.CoveredSteps.{covered-new, covered-set, covered-splice, covered-put}
-use Rattle.lx_draft.proofs.Put.{both_none, can_put}
+use Rattle.lx_draft.proofs.Put.{both_none, can_put, none_of, put_fits}
 use Rattle.lx_edit.specs.Edits.{pointed}
 use Rattle.lx_blocks.specs.Ranges.{lies}
 use Rattle.lx_caret.specs.Lying.{EachPoint, IsLying, TextsAreShort}
@@ -308,29 +308,12 @@ pub record IsPut (f : Forest) (k p index : ℕ) : Type 0 where
   pub fits : holds may_hold (kind_of f p) (kind_of f k) ≡ true
   pub within : index ≤ size_of f p
 
-misfit_holds : (outer inner : Option Kind) → misfit outer inner ≡ None → holds may_hold outer inner ≡ true
-misfit_holds (Some a) (Some b) e = by_test (may_hold a b) e where
-  by_test : (t : Bool) → cond t None (Some (WrongKind b)) ≡ None → t ≡ true
-  by_test true e = refl
-  by_test false e = absurd (cc)
-misfit_holds None inner e = refl
-misfit_holds (Some a) None e = refl
-
 not_beyond : (f : Forest) (p index : ℕ) → beyond f p index ≡ None → index ≤ size_of f p
 not_beyond f p index e = grind (arith, nat_tests, e)
 
 pub puts : (f : Forest) (k p index : ℕ) → put_fault k p index f ≡ None → IsPut f k p index
 puts f k p index e =
-    let a = both_none (unknown f k) (option_or (unknown f p) (option_or (bound_to f p k) (option_or (misfit (kind_of f p) (kind_of f k)) (beyond f p index))))
-    e in
-    let b = both_none (unknown f p) (option_or (bound_to f p k) (option_or (misfit (kind_of f p) (kind_of f k)) (beyond f p index))) a.1 in
-    let c = both_none (bound_to f p k) (option_or (misfit (kind_of f p) (kind_of f k)) (beyond f p index)) b.1 in
-    let d = both_none (misfit (kind_of f p) (kind_of f k)) (beyond f p index) c.1 in
-    record {
-      may = can_put f k p index e;
-      fits = misfit_holds (kind_of f p) (kind_of f k) d.0;
-      within = not_beyond f p index d.1;
-    }
+    record { may = can_put f k p index e; fits = put_fits f k p index e; within = not_beyond f p index (none_of f k p index e).within }
 
 pub key_of_put : (p i : ℕ) (x : Point) → (put_moves p i x).key ≡ x.key
 unfolding put_moves

@@ -3,11 +3,13 @@ use Rattle.std.proofs.Common.{◌≡◌, ◌≤◌, ℕ, true, length, Option, N
 use Rattle.std.specs.Option.{option_or}
 use Rattle.std.specs.Prelude.{slice_get}
 use Rattle.std.proofs.lemmas.Bool.Decides.{eqb_tells}
+use Rattle.lx_node.specs.Kinds.{may_hold}
+use Rattle.lx_node.specs.declared.kind.Kind.{Kind}
 use Rattle.lx_trees.specs.Siblings.{is_among}
 use Rattle.lx_trees.proofs.Siblings.{is_named_tells}
 use Rattle.lx_trees.proofs.Positions.{is_among-slice_get}
 use Rattle.lx_forest.specs.Forest.{Forest}
-use Rattle.lx_forest.specs.Lookups.{has, kind_of, parent_of, children_of, IsForest}
+use Rattle.lx_forest.specs.Lookups.{has, kind_of, parent_of, children_of, holds, IsForest}
 use Rattle.lx_forest.specs.Edits.{CanPut}
 use Rattle.lx_forest.proofs.Lookups.{is_among-children_of}
 use Rattle.lx_forest.proofs.Walks.{no_parent}
@@ -20,14 +22,14 @@ both_none None b e = (refl, e)
 both_none (Some x) b e = absurd (grind (arith, e))
 
 -- the causes of a put one by one
-record NoneOf (f : Forest) (k p index : ℕ) : Type 0 where
+pub record NoneOf (f : Forest) (k p index : ℕ) : Type 0 where
   pub key : unknown f k ≡ None
   pub parent : unknown f p ≡ None
   pub free : bound_to f p k ≡ None
   pub fit : misfit (kind_of f p) (kind_of f k) ≡ None
   pub within : beyond f p index ≡ None
 
-none_of : (f : Forest) (k p index : ℕ) → put_fault k p index f ≡ None → NoneOf f k p index
+pub none_of : (f : Forest) (k p index : ℕ) → put_fault k p index f ≡ None → NoneOf f k p index
 none_of f k p index e =
     let a = both_none (unknown f k) (option_or (unknown f p) (option_or (bound_to f p k) (option_or (misfit (kind_of f p) (kind_of f k)) (beyond f p index))))
     e in
@@ -35,6 +37,14 @@ none_of f k p index e =
     let c = both_none (bound_to f p k) (option_or (misfit (kind_of f p) (kind_of f k)) (beyond f p index)) b.1 in
     let d = both_none (misfit (kind_of f p) (kind_of f k)) (beyond f p index) c.1 in
     record { key = a.0; parent = b.0; free = c.0; fit = d.0; within = d.1 }
+
+misfit_holds : (outer inner : Option Kind) → misfit outer inner ≡ None → holds may_hold outer inner ≡ true
+misfit_holds (Some a) (Some b) e = grind (arith, e)
+misfit_holds outer inner e = refl
+
+-- a node may hold one that is put below it
+pub put_fits : (f : Forest) (k p index : ℕ) → put_fault k p index f ≡ None → holds may_hold (kind_of f p) (kind_of f k) ≡ true
+put_fits f k p index e = misfit_holds (kind_of f p) (kind_of f k) (none_of f k p index e).fit
 
 pub can_put : (f : Forest) (k p index : ℕ) → put_fault k p index f ≡ None → CanPut p k f
 can_put f k p index e =

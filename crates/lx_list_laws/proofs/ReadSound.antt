@@ -10,14 +10,14 @@ use Rattle.lx_forest.specs.Forest.{Forest}
 use Rattle.lx_forest.specs.Lookups.{has, label_of, kind_of, children_of, holds, IsForest, IsHeld}
 use Rattle.lx_forest.specs.Edits.{with_new, with_fields}
 use Rattle.lx_forest.proofs.Held.{IsHeld-with_new, IsHeld-with_fields, IsHeld-take_out, IsHeld-put_in}
-use Rattle.lx_links.specs.Faults.{misfit, set_fault}
+use Rattle.lx_links.specs.Faults.{set_fault}
 use Rattle.lx_draft.specs.Working.{Working}
 use Rattle.lx_draft.specs.Covering.{KindsStay, AreCovered}
 use Rattle.lx_draft.specs.Faults.{over_counts, over_limits, put_fault, splice_fault}
 use Rattle.lx_draft.specs.Steps.{made, new_step, fields_written, set_points, set_step, splice_points, label_with_piece, splice_step, take_step, node_placed, put_step}
 use Rattle.lx_draft.proofs.Covered.{answered}
 use Rattle.lx_draft.proofs.CoveredSteps.{covered-new, covered-set, covered-splice, covered-take, covered-put}
-use Rattle.lx_draft.proofs.Put.{both_none, can_put}
+use Rattle.lx_draft.proofs.Put.{both_none, can_put, put_fits}
 use Rattle.lx_edit.proofs.Climbed.{taken-forest}
 use Rattle.lx_blocks.proofs.Paths.{IsWay}
 use Rattle.lx_list_laws.specs.Reading.{IsSound}
@@ -91,13 +91,6 @@ sound_take : (k : ℕ) (w v : Working) → IsSound w → take_step k w ≡ Ok v 
 sound_take k w v s e =
     by_covered w v (covered-take k w v s.ready e)
     (subst (IsHeld may_hold) (sym (taken-forest k w v e)) (IsHeld-take_out may_hold w.forest s.ready.in_order s.held k))
-
-misfit_holds : (outer inner : Option Kind) → misfit outer inner ≡ None → holds may_hold outer inner ≡ true
-misfit_holds (Some a) (Some b) e = grind (arith, e)
-misfit_holds outer inner e = refl
-
-put_fits : (f : Forest) (k p index : ℕ) → put_fault k p index f ≡ None → holds may_hold (kind_of f p) (kind_of f k) ≡ true
-put_fits f k p index e = misfit_holds (kind_of f p) (kind_of f k) (grind (arith, e))
 
 sound_put : (k p index : ℕ) (w v : Working) → IsSound w → put_step k p index w ≡ Ok v → StaysSound w v
 unfolding put_step
