@@ -1,5 +1,5 @@
 -- What an outline is once the events between two trees were followed, and how many reads that took.
-use Rattle.std.proofs.Common.{◌≡◌, ◌∙◌, ℕ, ◌+◌, ◌-◌, ◌<◌, ◌≤◌, true, cond, nat_eq, List, None, ap, arith}
+use Rattle.std.proofs.Common.{◌≡◌, ◌∙◌, ℕ, ◌+◌, ◌-◌, ◌<◌, ◌≤◌, true, cond, nat_eq, List, None, sym, ap, subst, arith}
 use Rattle.std.specs.Prelude.{sum_by}
 use Rattle.std.specs.Map.{lookup}
 use Rattle.lx_node.specs.Limits.{most_nodes, most_characters}
@@ -63,32 +63,33 @@ module _ (old new : Forest) (events : List Event) (b : AreBetween old new events
       → weight of old + weight_among of new events ≡ weight of new + weight_among of old events
   whole of same = weights_follow old new events b.before b.after b.told of same
 
+  -- a weight of the whole, by what goes of it with the events and what comes
+  moved : (of : Label → ℕ) (most : ℕ) → most + most < 4294967296 → ((q : ℕ) → IsSame old new q → own_weight of old q ≡ own_weight of new q)
+      → (f g : Forest) (was gone come : ℕ) → f ≡ old → g ≡ new → weight of old ≤ most → weight of new ≤ most
+      → was ≡ weight of old → gone ≡ weight_among of f events → come ≡ weight_among of g events → IsMoved was gone come (weight of new)
+  moved of most small same f g was gone come at_old at_new few many is going coming =
+      let all = whole of same in
+      let before : gone ≡ weight_among of old events = going ∙ ap (λ f. weight_among of f events) at_old in
+      let after : come ≡ weight_among of new events = coming ∙ ap (λ f. weight_among of f events) at_new in
+      record {
+        fits = omega (arith, is, after, few, many, small, new_part old new events b.before b.after b.told of);
+        enough = omega (arith, is, before, after, all);
+        left = omega (arith, is, before, after, all);
+      }
+
   -- the number of nodes, and that of characters
   pub nodes_moved : (f g : Forest) (was gone come : ℕ) → f ≡ old → g ≡ new → total old ≤ most_nodes → total new ≤ most_nodes
       → was ≡ total old → gone ≡ weight_among one_in f events → come ≡ weight_among one_in g events → IsMoved was gone come (total new)
   nodes_moved f g was gone come at_old at_new few many is going coming =
-      let all = whole one_in (same_one_weight old new) in
-      let before : gone ≡ weight_among one_in old events = going ∙ ap (λ f. weight_among one_in f events) at_old in
-      let after : come ≡ weight_among one_in new events = coming ∙ ap (λ f. weight_among one_in f events) at_new in
-      record {
-        fits = omega (arith, is, after, few, few_new many);
-        enough = omega (arith, is, before, after, all, total_weight old);
-        left = omega (arith, is, before, after, all, total_weight old, total_weight new);
-      }
+      subst (IsMoved was gone come) (sym (total_weight new))
+      (moved one_in most_nodes (omega arith) (same_one_weight old new) f g was gone come at_old at_new (omega (arith, few, total_weight old))
+      (omega (arith, many, total_weight new)) (is ∙ total_weight old) going coming)
 
   pub characters_moved : (f g : Forest) (was gone come : ℕ) → f ≡ old → g ≡ new → weight characters_in old ≤ most_characters
       → weight characters_in new ≤ most_characters
       → was ≡ weight characters_in old → gone ≡ weight_among characters_in f events → come ≡ weight_among characters_in g events
       → IsMoved was gone come (weight characters_in new)
-  characters_moved f g was gone come at_old at_new short long is going coming =
-      let all = whole characters_in (same_text_weight old new) in
-      let before : gone ≡ weight_among characters_in old events = going ∙ ap (λ f. weight_among characters_in f events) at_old in
-      let after : come ≡ weight_among characters_in new events = coming ∙ ap (λ f. weight_among characters_in f events) at_new in
-      record {
-        fits = omega (arith, is, after, short, short_new long);
-        enough = omega (arith, is, before, after, all);
-        left = omega (arith, is, before, after, all);
-      }
+  characters_moved = moved characters_in most_characters (omega arith) (same_text_weight old new)
 
   -- the headings, of which those that have a node of an event are read anew
   pub headings_are : (f g : Forest) (touched keys : List ℕ) (was left is : List (ℕ × Heading)) → f ≡ new → g ≡ new → keys ≡ touched

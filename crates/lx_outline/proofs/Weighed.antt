@@ -74,25 +74,17 @@ module _ (old new : Forest) (events : List Event) (before : Sound old) (after : 
   ]
 
   -- of each tree the nodes that events are about weigh no more than all
+  part : (of : Label → ℕ) (f : Forest) → Sound f → top_key f ≤ top → weight_among of f events ≤ weight of f
+  part of f sound high =
+      omega (arith, among_keys of f events, with_others (own_weight of f) (map key_in events) top told.once within, weight_by_keys of f top sound high)
+
   pub old_part : (of : Label → ℕ) → weight_among of old events ≤ weight of old
   unfolding top
-  old_part of =
-      omega (
-        arith,
-        among_keys of old events,
-        with_others (own_weight of old) (map key_in events) top told.once within,
-        weight_by_keys of old top before (omega arith),
-      )
+  old_part of = part of old before (omega arith)
 
   pub new_part : (of : Label → ℕ) → weight_among of new events ≤ weight of new
   unfolding top
-  new_part of =
-      omega (
-        arith,
-        among_keys of new events,
-        with_others (own_weight of new) (map key_in events) top told.once within,
-        weight_by_keys of new top after (omega arith),
-      )
+  new_part of = part of new after (omega arith)
 
   same_others : (of : Label → ℕ) → ((q : ℕ) → IsSame old new q → own_weight of old q ≡ own_weight of new q) → (q : ℕ)
       → others (map key_in events) (own_weight of old) q ≡ others (map key_in events) (own_weight of new) q

@@ -180,33 +180,35 @@ added_fits made p f g kind a there fits = ap (λ o. holds may_hold o (kind_of g 
 
 -- ---- before, after, child
 
+-- a new node that may come below a node is put there by a step that refuses nothing where it can come
+new_put : (new : NewNode) (p : ℕ) (next : ℕ → Working → Result Working Cause) (w : Working) → IsReady w → has p w.forest ≡ true
+    → holds may_hold (kind_of w.forest p) (Some new.kind) ≡ true
+    → ((u : Working) → IsForest u.forest → IsAdded w.next_key w.forest u.forest new.kind → CanPut p w.next_key u.forest
+    → holds may_hold (kind_of u.forest p) (kind_of u.forest w.next_key) ≡ true → Exhausts (next w.next_key u))
+    → Exhausts (with_made new next w)
+new_put new p next w r there fits puts =
+    exhausts_then (new_step new.kind new.fields w) (next w.next_key) (new_exhausts new.kind new.fields w)
+    (λ u e. let a = added new.kind new.fields w u r e in
+    puts u (covered-new new.kind new.fields w u r e).ready.in_order a (added_can w.next_key p w.forest u.forest new.kind r.in_order a there)
+    (added_fits w.next_key p w.forest u.forest new.kind a there fits))
+
 pub new_before_exhausts : (new : NewNode) (k : ℕ) (w : Working) → IsReady w → HasPlace w.forest k new.kind
     → Exhausts (with_made new (λ made. put_before_step made k) w)
 new_before_exhausts new k w r place =
-    let there = has-parent_of w.forest k place.parent place.below in
-    exhausts_then (new_step new.kind new.fields w) (put_before_step w.next_key k) (new_exhausts new.kind new.fields w)
-    (λ u e. let a = added new.kind new.fields w u r e in
-    before_exhausts w.next_key k place.parent u (covered-new new.kind new.fields w u r e).ready.in_order (a.parents k ∙ place.below)
-    (added_can w.next_key place.parent w.forest u.forest new.kind r.in_order a there)
-    (added_fits w.next_key place.parent w.forest u.forest new.kind a there place.fits))
+    new_put new place.parent (λ made. put_before_step made k) w r (has-parent_of w.forest k place.parent place.below) place.fits
+    (λ u h a can fits. before_exhausts w.next_key k place.parent u h (a.parents k ∙ place.below) can fits)
 
 pub new_behind_exhausts : (new : NewNode) (k : ℕ) (w : Working) → IsReady w → HasPlace w.forest k new.kind
     → Exhausts (with_made new (λ made. put_behind_step made k) w)
 new_behind_exhausts new k w r place =
-    let there = has-parent_of w.forest k place.parent place.below in
-    exhausts_then (new_step new.kind new.fields w) (put_behind_step w.next_key k) (new_exhausts new.kind new.fields w)
-    (λ u e. let a = added new.kind new.fields w u r e in
-    behind_exhausts w.next_key k place.parent u (covered-new new.kind new.fields w u r e).ready.in_order (a.parents k ∙ place.below)
-    (added_can w.next_key place.parent w.forest u.forest new.kind r.in_order a there)
-    (added_fits w.next_key place.parent w.forest u.forest new.kind a there place.fits))
+    new_put new place.parent (λ made. put_behind_step made k) w r (has-parent_of w.forest k place.parent place.below) place.fits
+    (λ u h a can fits. behind_exhausts w.next_key k place.parent u h (a.parents k ∙ place.below) can fits)
 
 pub new_child_exhausts : (new : NewNode) (k : ℕ) (w : Working) → IsReady w → has k w.forest ≡ true → holds may_hold (kind_of w.forest k) (Some new.kind) ≡ true
     → Exhausts (with_made new (λ made u. put_step made k (size_of u.forest k) u) w)
 new_child_exhausts new k w r there fits =
-    exhausts_then (new_step new.kind new.fields w) (λ u. put_step w.next_key k (size_of u.forest k) u) (new_exhausts new.kind new.fields w)
-    (λ u e. let a = added new.kind new.fields w u r e in
-    put_exhausts w.next_key k (size_of u.forest k) u (added_can w.next_key k w.forest u.forest new.kind r.in_order a there)
-    (added_fits w.next_key k w.forest u.forest new.kind a there fits) (omega arith))
+    new_put new k (λ made u. put_step made k (size_of u.forest k) u) w r there fits
+    (λ u h a can fits. put_exhausts w.next_key k (size_of u.forest k) u can fits (omega arith))
 
 -- ---- what a put came to
 
