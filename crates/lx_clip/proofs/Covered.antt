@@ -31,7 +31,8 @@ use Rattle.lx_blocks.specs.Blocks.{is_at, passes}
 use Rattle.lx_blocks.specs.Ranges.{if_normal}
 use Rattle.lx_fields.specs.Exporting.{node_data}
 use Rattle.lx_json.specs.Exporting.{trees_data}
-use Rattle.lx_json.proofs.BackWritten.{IsRead, written, items_of-written, written-joined, map_more}
+use Rattle.lx_links.proofs.Read.{IsRead, tree_read}
+use Rattle.lx_json.proofs.BackWritten.{written, items_of-written, written-joined, map_more}
 use Rattle.lx_clip.specs.Extents.{AreAlike}
 use Rattle.lx_clip.specs.Covers.{Extent, from_in, to_in, is_covered_text, cut_to, part_cover, text_cover, is_nil, element_cover, leaf_cover, cover, covers, are_inline, item_if, label_for}
 
@@ -81,7 +82,7 @@ joined_nil (tree l below rest) = ap (tree l below) (joined_nil rest)
 pub cover_read : (e : Extent) (f : Forest) (key : ℕ) (n : Node) → IsRead f key n
     → covers e (alone key f) ≡ cover e n.fields (label_for key n) (covers e (trees_of f (children_of f key)))
 unfolding covers
-cover_read e f key n read = ap (covers e) read.tree_is ∙ joined_nil (cover e n.fields (label_for key n) (covers e (trees_of f (children_of f key))))
+cover_read e f key n read = ap (covers e) (tree_read f key n read) ∙ joined_nil (cover e n.fields (label_for key n) (covers e (trees_of f (children_of f key))))
 
 pub text_read : (e : Extent) (f : Forest) (key : ℕ) (n : Node) (text : TextFields) → IsRead f key n → n.fields ≡ fields.Text text
     → covers e (alone key f) ≡ text_cover e text (label_for key n)

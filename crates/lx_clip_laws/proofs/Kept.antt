@@ -16,6 +16,7 @@ use Rattle.lx_forest.specs.Lookups.{key_of, spot, label_of, kind_of, alone, tree
 use Rattle.lx_forest.specs.Suited.{is_suited}
 use Rattle.lx_forest.proofs.Edits.{key-spot}
 use Rattle.lx_forest.proofs.Lookups.{alone-spot}
+use Rattle.lx_json.proofs.BackTrees.{below_at, rest_at, first_at}
 use Rattle.lx_clip_laws.specs.Copies.{IsStored, IsKept}
 
 -- a node's fields are of its kind, and such as code can hold
@@ -40,19 +41,6 @@ record IsFit (kinds : ℕ → Option Kind) (s : Spot Label) : Type 0 where
   kind : kinds s.label.key ≡ Some s.label.kind
   held : (p : ℕ) → s.parent ≡ Some p → holds may_hold (kinds p) (Some s.label.kind) ≡ true
   good : IsGood s.label
-
-below_at : (r : Option ℕ) (l : Label) (below rest : Forest) (q : ℕ) (s : Spot Label) → IsDistinct key_of (tree l below rest)
-    → spot_below key_of (Some l.key) below q ≡ Some s → spot_below key_of r (tree l below rest) q ≡ Some s
-below_at r l below rest q s once e = grind (arith, e, once q, eqb_tells l.key q, spot_below-absent key_of (Some l.key) below q)
-
-rest_at : (r : Option ℕ) (l : Label) (below rest : Forest) (q : ℕ) (s : Spot Label) → IsDistinct key_of (tree l below rest)
-    → spot_below key_of r rest q ≡ Some s → spot_below key_of r (tree l below rest) q ≡ Some s
-rest_at r l below rest q s once e =
-    grind (arith, e, once q, eqb_tells l.key q, spot_below-absent key_of (Some l.key) below q, spot_below-absent key_of r rest q)
-
-first_at : (r : Option ℕ) (l : Label) (below rest : Forest)
-    → spot_below key_of r (tree l below rest) l.key ≡ Some (record { label = l; parent = r; children = named.names key_of below })
-first_at r l below rest = grind (arith, eqb_tells l.key l.key)
 
 are_good : (kinds : ℕ → Option Kind) (p : ℕ) (parent : Kind) (t : Forest) → IsDistinct key_of t → kinds p ≡ Some parent
     → ((q : ℕ) (s : Spot Label) → spot_below key_of (Some p) t q ≡ Some s → IsFit kinds s) → AreGood parent t

@@ -4,7 +4,7 @@ use Rattle.lx_step.specs.declared.rule.TypeRow.{TypeRow}
 use Rattle.lx_forest.specs.Forest.{Forest}
 use Rattle.lx_forest.specs.Lookups.{depth, from, kind_of, IsForest}
 use Rattle.lx_forest.proofs.Walks.{from-root, depth-root}
-use Rattle.lx_draft.proofs.Measured.{left_from, IsAt}
+use Rattle.lx_draft.proofs.Measured.{left_from, IsAt, left-step, at_next}
 use Rattle.lx_rules.specs.Types.{is_of_row}
 use Rattle.lx_editor.specs.Registered.{of_type}
 
@@ -18,15 +18,6 @@ pub record IsGathered (row : TypeRow) (f : Forest) (keys : List ℕ) (at : Optio
 
 pub gathered_none : (row : TypeRow) (f : Forest) → IsForest f → IsGathered row f [] (Some (0, 0))
 gathered_none row f order = record { all = ap (filter (is_there row f)) (from-root f order); here = depth-root f order }
-
-step_left : (o : Option (ℕ × ℕ)) (f : Forest) (q : ℕ) → IfSome o (λ next. from f q ≡ q ∷ from f next.0) → IfNone o (from f q ≡ q ∷ [])
-    → from f q ≡ q ∷ left_from f o
-step_left None f q next last = last
-step_left (Some at) f q next last = next
-
-step_at : (o : Option (ℕ × ℕ)) (f : Forest) → IfSome o (λ next. depth f next.0 ≡ Some next.1) → IsAt f o
-step_at None f h = tt
-step_at (Some at) f h = h
 
 -- a key more: it is gathered where it is one of the type
 one_more : (b : Bool) (keys rest : List ℕ) (q : ℕ) → (if b then keys ++ q ∷ [] else keys) ++ rest ≡ keys ++ (if b then q ∷ rest else rest)
@@ -42,8 +33,8 @@ gathered_more row f b at o keys more q d g is test made next last deep = record 
       ap (λ ks. ks ++ filter (is_there row f) (left_from f o)) made
       ∙ one_more b keys (filter (is_there row f) (left_from f o)) q
       ∙ ap (λ t. keys ++ (if t then q ∷ filter (is_there row f) (left_from f o) else filter (is_there row f) (left_from f o))) test
-      ∙ ap (λ ks. keys ++ filter (is_there row f) ks) (sym (step_left o f q next last))
+      ∙ ap (λ ks. keys ++ filter (is_there row f) ks) (sym (left-step o f q next last))
       ∙ ap (λ x. keys ++ filter (is_there row f) (left_from f x)) (sym is)
       ∙ g.all;
-  here = step_at o f deep;
+  here = at_next o f deep;
 }

@@ -23,42 +23,12 @@ use Rattle.lx_forest.proofs.Lookups.{alone-spot, has-child}
 use Rattle.lx_forest.proofs.Walks.{total-alone-lt}
 use Rattle.lx_links.specs.Stands.{node_of, Sound}
 use Rattle.lx_links.proofs.Placed.{parent_of-child}
+use Rattle.lx_links.proofs.Read.{IsRead, tree_read, kind_read}
 use Rattle.lx_links.proofs.Up.{in_order_at}
 use Rattle.lx_fields.specs.Documents.{document_fields}
 use Rattle.lx_fields.specs.Exporting.{node_data}
 use Rattle.lx_json.specs.Exporting.{trees_data}
 use Rattle.lx_json.specs.GivenBack.{AreGivenBack}
-
--- ---- a node that was read
-
-abbrev pub label_from : ℕ → Node → Label
-label_from key n = record { key = key; kind = n.kind; fields = n.fields }
-
-label_same : (l : Label) (key : ℕ) (kind : Kind) (fields : Fields) → l.key ≡ key → kind ≡ l.kind → fields ≡ l.fields
-    → l ≡ record { key = key; kind = kind; fields = fields }
-label_same l key kind fields e f g = rw (← e, f, g) refl
-
--- what a read says of a node
-pub record IsRead (f : Forest) (key : ℕ) (n : Node) : Type 0 where
-  pub of_kind : IsOfKind n.kind n.fields
-  pub tree_is : alone key f ≡ tree (label_from key n) (trees_of f (children_of f key)) nil
-
-pub is_read : (f : Forest) (key : ℕ) (n : Node) → Sound f → Some n ≡ option_map node_of (record_at f key) → IsRead f key n
-is_read f key n s e = from_spot (spot f key) refl e where
-  from_spot : (o : Option (Spot Label)) → spot f key ≡ o → Some n ≡ option_map node_of (option_map (linked (siblings f key) key) o) → IsRead f key n
-  from_spot None at e = absurd (cc)
-  from_spot (Some x) at e =
-      let same : n ≡ node_of (linked (siblings f key) key x) = same_Some n (node_of (linked (siblings f key) key x)) e in
-      let there : has key f ≡ true = sym (is_some-spot f key) ∙ ap is_some at in
-      let label : x.label ≡ label_from key n =
-      label_same x.label key n.kind n.fields (key-spot f key x at) (ap (λ (n : Node). n.kind) same) (ap (λ (n : Node). n.fields) same) in
-      record {
-        of_kind = sym (ap is_suited (ap (option_map (λ (s : Spot Label). s.label)) at ∙ ap (λ l. Some l) label)) ∙ s.suited.each key;
-        tree_is =
-            alone-spot f key x (in_order_at f key s there) at
-            ∙ ap (λ l. tree l (trees_of f x.children) nil) label
-            ∙ sym (ap (λ o. tree (label_from key n) (trees_of f (children_at o)) nil) at);
-      }
 
 -- a key that is there is found
 pub is_found : (f : Forest) (key : ℕ) → has key f ≡ true → None ≡ option_map node_of (record_at f key) → ⊥
@@ -147,17 +117,17 @@ pub node_written : {E : Type 0} (r : Result Value E) (f : Forest) (key : ℕ) (n
 unfolding trees_data
 node_written (Err e) f key n all left values read is none m made = tt
 node_written (Ok v) f key n all left values read is none m made =
-    ap trees_data read.tree_is
+    ap trees_data (tree_read f key n read)
     ∙ ap (λ ds. item (node_data n.kind n.fields ds) no_items) (sym (all_written f key all left values is none m))
     ∙ ap (λ d. item d no_items) (sym made)
 
-pub node_told : {E : Type 0} (r : Result Value E) (f : Forest) (key : ℕ) (n : Node) (all left : List ℕ) (values : List Value) → IsRead f key n
+pub node_told : {E : Type 0} (r : Result Value E) (f : Forest) (key : ℕ) (n : Node) (all left : List ℕ) (values : List Value) → Sound f → IsRead f key n
     → all ≡ children_of f key → left ≡ [] → IsWrittenUpTo f all left values
     → IfOk r (λ v. view v ≡ node_data n.kind n.fields (items_view values)) → IfOk r (λ v. document_fields n.kind (view v) ≡ Ok n.fields)
     → IfOk r (λ v. AreGivenBack (alone key f))
-node_told (Err e) f key n all left values read is none m made back = tt
-node_told (Ok v) f key n all left values read is none m made back =
+node_told (Err e) f key n all left values sound read is none m made back = tt
+node_told (Ok v) f key n all left values sound read is none m made back =
     let below = trees_of f (children_of f key) in
     let object : view v ≡ node_data n.kind n.fields (trees_data below) = made ∙ ap (node_data n.kind n.fields) (all_written f key all left values is none m) in
     let told : AreGivenBack below = subst (λ ks. AreGivenBack (trees_of f ks)) is (m.told (subst (λ ks. AreGivenBack (trees_of f ks)) (sym none) tt)) in
-    subst AreGivenBack (sym read.tree_is) (record { of_kind = read.of_kind; fields = ap (document_fields n.kind) (sym object) ∙ back }, told, tt)
+    subst AreGivenBack (sym (tree_read f key n read)) (record { of_kind = kind_read f key n sound read; fields = ap (document_fields n.kind) (sym object) ∙ back }, told, tt)

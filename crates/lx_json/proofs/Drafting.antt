@@ -24,6 +24,7 @@ use Rattle.lx_draft.specs.Faults.{answer, over, TellsStep}
 use Rattle.lx_draft.specs.Freezing.{tree_depth, tree_characters, limits_fault}
 use Rattle.lx_draft.proofs.Covered.{IsTold, noted_up, covered, kinds_at, same_keys}
 use Rattle.lx_draft.proofs.Depths.{whole_of, le-tree_depth}
+use Rattle.lx_draft.proofs.Swept.{within_limits}
 use Rattle.lx_draft.proofs.Touched.{touched-nodes}
 use Rattle.lx_json.specs.declared.growing.Growth.{Growth}
 use Rattle.lx_json.specs.Reading.{Piece, and_then}
@@ -96,32 +97,8 @@ is_rooted d next g e = by_trees (IsRooted next) next (document_of d) g (rooted_i
 
 -- ---- an update may start from it
 
-none_first : (a b : Option Cause) → option_or a b ≡ None → a ≡ None
-none_first None b h = refl
-none_first (Some cause) b h = h
-
-none_then : (a b : Option Cause) → option_or a b ≡ None → b ≡ None
-none_then None b h = h
-none_then (Some cause) b h = absurd (cc)
-
-within : (limit : Limit) (most n : ℕ) → most < 2 ^ 64 - 1 → over limit most n ≡ None → n ≤ most
-unfolding capped
-within limit most n small h = grind (arith, nat_tests)
-
 pub may_start : (g : Growth) → IsGrowing g → drop_detached g.links ≡ g.links → limits_fault g.links g.next ≡ None → MayStart g.links g.next
-may_start g i whole none =
-    let wide = none_then (over Depth most_depth (tree_depth g.links)) _ none in
-    let long = none_then (over Nodes most_nodes (total g.links)) _ wide in
-    let last = none_then (over Characters most_characters (tree_characters g.links)) _ long in
-    record {
-      next = within KeyCount most_key g.next (omega arith) last;
-      free = i.free;
-      few = within Nodes most_nodes (total g.links) (omega arith) (none_first (over Nodes most_nodes (total g.links)) _ wide);
-      whole = λ q there. whole_of g.links q i.order whole there;
-      shallow =
-          λ q d at. omega
-          (arith, le-tree_depth g.links q d at, within Depth most_depth (tree_depth g.links) (omega arith) (none_first (over Depth most_depth (tree_depth g.links)) _ none));
-    }
+may_start g i whole none = within_limits g.links g.next i.order i.free whole none
 
 -- ---- its marks
 

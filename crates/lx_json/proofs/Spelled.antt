@@ -8,30 +8,14 @@ use Rattle.lx_json.specs.Reading.{child_place}
 use Rattle.lx_json.specs.Nodes.{index_place}
 use Rattle.lx_json.proofs.Ordered.{are_ascii}
 
-pub chars-nothing : chars (codes "") ≡ []
-unfolding chars
-chars-nothing = refl
-
-pub chars-slash : chars (codes "/") ≡ codes "/"
-unfolding chars
-chars-slash = refl
-
-pub chars-type : chars (codes "/type") ≡ codes "/type"
-unfolding chars
-chars-type = refl
-
-pub chars-root : chars (codes "/root") ≡ codes "/root"
-unfolding chars
-chars-root = refl
-
-pub chars-children : chars (codes "children") ≡ codes "children"
-unfolding chars
-chars-children = refl
-
 below_128 : (bytes : List ℕ) → are_ascii bytes ≡ true → IsAscii bytes
 below_128 [] ascii place = omega arith
 below_128 (byte ∷ bytes) ascii zero = grind (arith, nat_tests, ascii)
 below_128 (byte ∷ bytes) ascii (suc place) = below_128 bytes (grind (arith, ascii)) place
+
+-- a word of ASCII is the list of its bytes
+pub chars_plain : (bytes : List ℕ) → are_ascii bytes ≡ true → chars bytes ≡ bytes
+chars_plain bytes ascii = chars-IsAscii bytes (below_128 bytes ascii)
 
 front_ascii : IsAscii (codes "/children/")
 front_ascii = below_128 (codes "/children/") refl

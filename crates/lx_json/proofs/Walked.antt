@@ -8,7 +8,7 @@ use Rattle.lx_draft.specs.Working.{Working}
 use Rattle.lx_draft.specs.Marking.{marked_in}
 use Rattle.lx_draft.specs.Steps.{mark_uncounted_step}
 use Rattle.lx_draft.proofs.Covered.{answered}
-use Rattle.lx_draft.proofs.Measured.{left_from, IsAt}
+use Rattle.lx_draft.proofs.Measured.{left_from, IsAt, left-step, at_next}
 
 -- what is marked, and what is left to mark, come to all
 pub record IsMarkedTo (first w : Working) (at : Option (ℕ × ℕ)) : Type 0 where
@@ -22,15 +22,6 @@ marked_none w order = record {
   all = ap (λ ks. marked_in w.forest ks w) (from-root w.forest order);
   here = depth-root w.forest order;
 }
-
-step_left : (o : Option (ℕ × ℕ)) (f : Forest) (q : ℕ) → IfSome o (λ next. from f q ≡ q ∷ from f next.0) → IfNone o (from f q ≡ q ∷ [])
-    → from f q ≡ q ∷ left_from f o
-step_left None f q next last = last
-step_left (Some at) f q next last = next
-
-step_at : (o : Option (ℕ × ℕ)) (f : Forest) → IfSome o (λ next. depth f next.0 ≡ Some next.1) → IsAt f o
-step_at None f h = tt
-step_at (Some at) f h = h
 
 -- a mark leaves the forest
 pub marked_by : (q : ℕ) (w v : Working) → mark_uncounted_step q w ≡ Ok v → marked_in w.forest (q ∷ []) w ≡ v
@@ -49,7 +40,7 @@ pub marked_more : (first w v : Working) (at o : Option (ℕ × ℕ)) (q d : ℕ)
     → IsMarkedTo first v o
 marked_more first w v at o q d g m e own next last deep is =
     let same : v.forest ≡ first.forest = forest_by first w v at q m e in
-    let left : from first.forest q ≡ q ∷ left_from first.forest o = subst (λ f. from f q ≡ q ∷ left_from f o) (own ∙ same) (step_left o g q next last) in
+    let left : from first.forest q ≡ q ∷ left_from first.forest o = subst (λ f. from f q ≡ q ∷ left_from f o) (own ∙ same) (left-step o g q next last) in
     record {
       forest = same;
       all =
@@ -57,7 +48,7 @@ marked_more first w v at o q d g m e own next last deep is =
           ∙ ap (λ ks. marked_in first.forest ks w) (sym left)
           ∙ ap (λ x. marked_in first.forest (left_from first.forest x) w) (sym is)
           ∙ m.all;
-      here = subst (λ f. IsAt f o) (own ∙ same) (step_at o g deep);
+      here = subst (λ f. IsAt f o) (own ∙ same) (at_next o g deep);
     }
 
 -- fewer are left
@@ -67,6 +58,6 @@ pub fewer : (first w v : Working) (at o : Option (ℕ × ℕ)) (q d : ℕ) (g : 
 fewer first w v at o q d g m e own next last is =
     let same : v.forest ≡ w.forest = forest_by first w v at q m e ∙ sym m.forest in
     let left : from w.forest q ≡ q ∷ left_from v.forest o =
-    sym (ap (λ f. from f q) same) ∙ subst (λ f. from f q ≡ q ∷ left_from f o) own (step_left o g q next last) in
+    sym (ap (λ f. from f q) same) ∙ subst (λ f. from f q ≡ q ∷ left_from f o) own (left-step o g q next last) in
     let whole : left_from w.forest at ≡ q ∷ left_from v.forest o = ap (left_from w.forest) is ∙ left in
     omega (arith, ap length whole)

@@ -20,7 +20,8 @@ use Rattle.lx_render.specs.Render.{tag_of}
 use Rattle.lx_reconcile.specs.Allowed.{places_of, is_tag, is_parent, is_only}
 use Rattle.lx_reconcile.specs.Counting.{IsInTree, unkept_in}
 use Rattle.lx_reconcile.proofs.Attached.{tree_order}
-use Rattle.lx_reconcile.proofs.Children.{label_from, is_read, tree_read, total_read, child_left, next_place}
+use Rattle.lx_links.proofs.Read.{label_from, is_read, tree_read}
+use Rattle.lx_reconcile.proofs.Children.{total_read, child_left, next_place}
 use Rattle.lx_reconcile.proofs.Kept.{places_at, places_of-spot}
 use Rattle.lx_reconcile.proofs.UnkeptNodes.{same_parent, unkept-joined, unkept-total}
 

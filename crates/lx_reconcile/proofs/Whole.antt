@@ -29,7 +29,8 @@ use Rattle.lx_reconcile.specs.Making.{IsBetween, Reconciles, MakesMoves, AreComi
 use Rattle.lx_reconcile.specs.Reconciled.{host_in}
 use Rattle.lx_reconcile.specs.ToCome.{IsInWalk}
 use Rattle.lx_reconcile.specs.Walk.{IsPart}
-use Rattle.lx_reconcile.proofs.Children.{stands_there, label_from, IsRead, is_read, there_read, tree_read, last_kind_read, label_read}
+use Rattle.lx_links.proofs.Read.{label_from, IsRead, is_read, there_read, tree_read, label_read}
+use Rattle.lx_reconcile.proofs.Children.{stands_there, last_kind_read}
 use Rattle.lx_reconcile.proofs.Due.{each_append}
 use Rattle.lx_reconcile.proofs.Touched.{Due, last_same, writes_due}
 use Rattle.std.proofs.Common.{cond, length}

@@ -4,7 +4,8 @@ use Rattle.std.specs.Option.{option_copied}
 use Rattle.serde_json.specs.View.{view}
 use Rattle.lx_node.specs.Kinds.{is_inline}
 use Rattle.lx_forest.specs.Lookups.{alone}
-use Rattle.lx_json.proofs.BackWritten.{IsRead, is_read, is_found}
+use Rattle.lx_links.proofs.Read.{IsRead, is_read}
+use Rattle.lx_json.proofs.BackWritten.{is_found}
 use Rattle.lx_blocks.specs.Blocks.{is_at}
 use Rattle.lx_clip.specs.Covers.{covers, item_if, label_for}
 use Rattle.lx_clip.specs.Extents.{seen}

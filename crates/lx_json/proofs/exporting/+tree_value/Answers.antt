@@ -1,6 +1,7 @@
 use Rattle.std.proofs.Common.{◌≡◌, ◌∙◌, [], ◌∷◌, sym, ap, rules}
 use Rattle.std.specs.Option.{option_copied}
-use Rattle.lx_json.proofs.BackWritten.{is_read, is_found, child_left, written_more, node_written, node_told}
+use Rattle.lx_links.proofs.Read.{is_read}
+use Rattle.lx_json.proofs.BackWritten.{is_found, child_left, written_more, node_written, node_told}
 use Rattle.lx_json.proofs.exporting.+tree_value.Goals as goal
 
 pub unreachable-requires : goal.unreachable-requires
@@ -36,7 +37,7 @@ pub returns-clause-told : goal.returns-clause-told
 returns-clause-told t c =
     let none : c.loop-child.child-iterator ≡ [] = search rules in
     node_told c.node_value.result c.args.links.now c.args.key c.in-Some.node.now c.into_iter-child-iterator.result c.loop-child.child-iterator
-    c.loop-child.children.items
+    c.loop-child.children.items c.node.ensures.sound
     (is_read c.args.links.now c.args.key c.in-Some.node.now c.node.ensures.sound (sym (ap option_copied c.in-Some.is) ∙ c.node.ensures.node))
     (c.into_iter-child-iterator.ensures.into_iter_gives ∙ c.children-child-items.ensures.children) none c.loop-child.invariant
     c.node_value.ensures.written c.node_value.ensures.fields

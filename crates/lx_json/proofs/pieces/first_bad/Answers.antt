@@ -1,8 +1,8 @@
-use Rattle.std.proofs.Common.{◌∙◌, ap, sym, codes, Err}
+use Rattle.std.proofs.Common.{◌∙◌, ap, sym, codes, Err, refl}
 use Rattle.std.specs.Str.{chars}
 use Rattle.lx_node.specs.declared.cause.Cause.TheVariants.{BadState}
 use Rattle.lx_json.specs.Reading.{member_place, first_bad, fields_or_bad}
-use Rattle.lx_json.proofs.Spelled.{chars-children}
+use Rattle.lx_json.proofs.Spelled.{chars_plain}
 use Rattle.lx_json.proofs.Kinded.{first_children, first_named}
 use Rattle.lx_json.proofs.Told.{tells_as, tells_at}
 use Rattle.lx_json.proofs.pieces.first_bad.Goals as goal
@@ -10,7 +10,7 @@ use Rattle.lx_json.proofs.pieces.first_bad.Goals.{then-is_bad+in_default, else-i
 
 pub returns-in-Greater : goal.returns-in-Greater
 returns-in-Greater c =
-    tells_at (member_place (codes "children")) (member_place (chars (codes "children"))) c.bad_member.result _ (ap member_place chars-children)
+    tells_at (member_place (codes "children")) (member_place (chars (codes "children"))) c.bad_member.result _ (ap member_place (chars_plain (codes "children") refl))
     c.bad_member.ensures
     (first_children c.args.is_bad c.args.name.now c.utf8.name c.if-is_bad.true (sym c.cmp.ensures ∙ c.in-Greater.is))
 

@@ -3,7 +3,7 @@ use Rattle.std.specs.Str.{chars}
 use Rattle.serde_json.specs.View.{view}
 use Rattle.lx_json.specs.Reading.{and_then, tree_of}
 use Rattle.lx_json.specs.Importing.{if_filled}
-use Rattle.lx_json.proofs.Spelled.{chars-nothing}
+use Rattle.lx_json.proofs.Spelled.{chars_plain}
 use Rattle.lx_json.proofs.Looked.{with_children, tree_of-other}
 use Rattle.lx_json.proofs.Rooted.{root_piece, rooted_next, root_told, root_grown, root_empty, root_refused, below_refused}
 use Rattle.lx_json.proofs.Told.{tells_at}
@@ -16,7 +16,7 @@ told c = root_told _ (sym c.is_object.ensures ∙ c.if-not-is_object.false) c.in
 
 pub returns-then-not-is_object-clause-err : goal.returns-then-not-is_object-clause-err
 returns-then-not-is_object-clause-err c =
-    tells_at [] (chars (codes "")) c.bad_state.result _ chars-nothing c.bad_state.ensures
+    tells_at [] (chars (codes "")) c.bad_state.result _ (chars_plain [] refl) c.bad_state.ensures
     (ap (λ r. and_then r if_filled) (tree_of-other (view c.args.value.now) None (sym c.is_object.ensures ∙ c.if-not-is_object.true)))
 
 pub returns-in-Err-clause-err : goal.returns-in-Err-clause-err
