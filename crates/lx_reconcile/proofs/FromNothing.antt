@@ -23,7 +23,8 @@ use Rattle.lx_reconcile.specs.Allowed.{Shows}
 use Rattle.lx_render.specs.Render.{render, face_of, last_kind, attributes_of, text_of}
 use Rattle.lx_reconcile.specs.Created.{numbered, creations, attribute_ops, text_ops, fresh_ops}
 use Rattle.lx_render.proofs.Rising.{attributes_are}
-use Rattle.lx_reconcile.proofs.Children.{stands_there, is_read, tree_read, total_read}
+use Rattle.lx_links.proofs.Read.{is_read, tree_read}
+use Rattle.lx_reconcile.proofs.Children.{stands_there, total_read}
 use Rattle.lx_reconcile.proofs.Created.{host_tree, Leads-append, Leads-fits, Leads-same, IsReadyFor, created, shape_of-numbered, fits_write}
 use Rattle.lx_reconcile.proofs.Written.{IsBehind, with_behind, behind_done}
 use Rattle.lx_host.proofs.Standing.{effect_attr, effect_text}

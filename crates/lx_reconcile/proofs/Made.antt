@@ -33,7 +33,8 @@ use Rattle.lx_reconcile.specs.Making.{IsBetween, Reconciles, MakesMoves, AreComi
 use Rattle.lx_reconcile.specs.Reconciled.{host_in}
 use Rattle.lx_reconcile.specs.ToCome.{IsInWalk}
 use Rattle.lx_reconcile.specs.Walk.{is_waiting, standing, child_of}
-use Rattle.lx_reconcile.proofs.Children.{label_from, is_read, label_read, StandsThere, stands_there}
+use Rattle.lx_links.proofs.Read.{label_from, is_read, label_read}
+use Rattle.lx_reconcile.proofs.Children.{StandsThere, stands_there}
 use Rattle.lx_reconcile.specs.Reading.{reads_in, reads_below}
 use Rattle.lx_reconcile.proofs.InTurn.{standing-append}
 use Rattle.lx_reconcile.proofs.Reading.{reads_append, reads-alone, reads_unkept, reads_kept, roots_of}

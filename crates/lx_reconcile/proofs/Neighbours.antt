@@ -8,7 +8,8 @@ use Rattle.lx_forest.specs.Records.{record_at}
 use Rattle.lx_forest.proofs.Lookups.{NoRepeats-children_of}
 use Rattle.lx_links.specs.Stands.{node_of, Sound}
 use Rattle.lx_links.proofs.Placed.{parent_of-child}
-use Rattle.lx_reconcile.proofs.Children.{child_left, is_read}
+use Rattle.lx_links.proofs.Read.{is_read}
+use Rattle.lx_reconcile.proofs.Children.{child_left}
 
 -- the siblings of a child are its parent's children
 pub siblings_of : (f : Forest) (key child : ℕ) → Sound f → is_among child (children_of f key) ≡ true → siblings f child ≡ children_of f key

@@ -6,6 +6,8 @@ use Rattle.std.proofs.lemmas.Option.{same_Some}
 use Rattle.lx_trees.specs.Trees.{nil, tree, joined}
 use Rattle.lx_trees.specs.NamedTrees.{total}
 use Rattle.lx_trees.specs.Siblings.{is_among}
+use Rattle.lx_node.specs.declared.kind.Kind.{Kind}
+use Rattle.lx_node.specs.declared.fields.Fields.{Fields}
 use Rattle.lx_host.specs.Hosts.{HostTree}
 use Rattle.lx_host.specs.declared.op.Op.{Op}
 use Rattle.lx_forest.specs.Forest.{Label, Forest}
@@ -17,7 +19,11 @@ use Rattle.lx_reconcile.specs.Handled.{IsReconciled}
 use Rattle.lx_reconcile.specs.Making.{IsBetween, Reconciles}
 use Rattle.lx_reconcile.proofs.StartEnd.{child_stands}
 use Rattle.lx_reconcile.proofs.Walked.{reconciled_same}
-use Rattle.lx_reconcile.proofs.Children.{stands_there, label_same}
+use Rattle.lx_reconcile.proofs.Children.{stands_there}
+
+same_label : (l : Label) (key : ℕ) (kind : Kind) (fields : Fields) → l.key ≡ key → kind ≡ l.kind → fields ≡ l.fields
+    → l ≡ record { key = key; kind = kind; fields = fields }
+same_label l key kind fields e f g = rw (← e, f, g) refl
 
 trees_same : (f g : Forest) (ks : List ℕ) → ((c : ℕ) → is_among c ks ≡ true → alone c f ≡ alone c g) → trees_of f ks ≡ trees_of g ks
 trees_same f g [] same = refl
@@ -48,7 +54,7 @@ module _ (old new : Forest) (mk : Marking) (v : HostTree) (b : IsBetween old new
       let fields : Some y.label.fields ≡ Some x.label.fields =
       sym (ap (option_map (λ (l : Label). l.fields)) y.label_is) ∙ sym alike.fields ∙ ap (option_map (λ (l : Label). l.fields)) x.label_is in
       let labels : y.label ≡ x.label =
-      label_same y.label x.label.key x.label.kind x.label.fields (y.key ∙ sym x.key) (sym (same_Some _ _ kinds)) (sym (same_Some _ _ fields)) in
+      same_label y.label x.label.key x.label.kind x.label.fields (y.key ∙ sym x.key) (sym (same_Some _ _ kinds)) (sym (same_Some _ _ fields)) in
       let below : trees_of new (children_of new k) ≡ trees_of old (children_of new k) = trees_same new old (children_of new k)
       (λ c among. same_below fuel c (omega (arith, small, total-alone-lt new c k b.view.after (parent_of-child new c k b.sound among)))
       (child_stands new k c b.view.after among) (child_unmarked k c plain among)) in
