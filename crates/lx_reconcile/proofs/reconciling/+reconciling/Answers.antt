@@ -8,6 +8,7 @@ use Rattle.lx_render.specs.Render.{needs_break, tag_of}
 use Rattle.lx_reconcile.specs.Walk.{IsPart, standing}
 use Rattle.lx_reconcile.specs.Allowing.{marking}
 use Rattle.lx_reconcile.specs.Reading.{reads_in, reads_below}
+use Rattle.lx_links.proofs.Read.{is_read, there_read}
 use Rattle.lx_reconcile.proofs.Children
 use Rattle.lx_reconcile.proofs.Made
 use Rattle.lx_reconcile.proofs.Partly
@@ -247,11 +248,11 @@ reconcile_node-push_face-requires g t c = record { stays = Whole.text_stays _ _ 
 
 pub reconcile_node-moves_of-requires-clause-there_before : goal.reconcile_node-moves_of-requires-clause-there_before
 reconcile_node-moves_of-requires-clause-there_before g t c =
-    Children.there_read _ c.args.key _ (Children.is_read _ c.args.key _ c.requires.between.was_sound c.requires.was)
+    there_read _ c.args.key _ (is_read _ c.args.key _ c.requires.between.was_sound c.requires.was)
 
 pub reconcile_node-moves_of-requires-clause-there_after : goal.reconcile_node-moves_of-requires-clause-there_after
 reconcile_node-moves_of-requires-clause-there_after g t c =
-    Children.there_read _ c.args.key _ (Children.is_read _ c.args.key _ c.requires.between.sound c.requires.now)
+    there_read _ c.args.key _ (is_read _ c.args.key _ c.requires.between.sound c.requires.now)
 
 pub reconcile_node-make_moves-requires : goal.reconcile_node-make_moves-requires
 reconcile_node-make_moves-requires g t c =
