@@ -1,5 +1,5 @@
 -- New nodes of edits that have work: nothing but a lack of counts, or of room for text, refuses them and where they go.
-use Rattle.std.proofs.Common.{◌≡◌, ◌∙◌, ℕ, Bool, true, false, cond, eqb, ◌&&◌, ◌||◌, List, [], ◌∷◌, Option, None, Some, option_map, Ok, refl, sym, ap, subst, arith, inl, inr}
+use Rattle.std.proofs.Common.{◌≡◌, ◌∙◌, ℕ, Bool, true, false, cond, eqb, ◌&&◌, ◌||◌, List, [], ◌∷◌, Option, None, Some, option_map, Result, Ok, refl, sym, ap, subst, arith, inl, inr}
 use Rattle.std.specs.List.{list_all}
 use Rattle.std.specs.Prelude.{is_some, slice_get}
 use Rattle.std.specs.Option.{option_or}
@@ -8,6 +8,7 @@ use Rattle.lx_node.specs.Kinds.{is_element, may_hold}
 use Rattle.lx_trees.specs.Siblings.{is_among, names_with}
 use Rattle.lx_trees.specs.Spots.{Spot, parent_at, children_at}
 use Rattle.lx_node.specs.Strings.{characters_of}
+use Rattle.lx_node.specs.declared.cause.Cause.{Cause}
 use Rattle.lx_node.specs.declared.kind.Kind.{Kind}
 use Rattle.lx_node.specs.declared.fields.Fields.{Fields}
 use Rattle.lx_node.specs.declared.node.View.{View}
