@@ -1,6 +1,6 @@
 -- What holds of each step of a draft, and of one after another, holds of what commands of tables are made of. All of them may put
 -- any key.
-use Rattle.std.proofs.Common.{◌≡◌, ℕ, ◌+◌, ◌-◌, ◌==◌, Bool, true, false, cond, List, [], length, Option, None, Some, Result, Ok, Err}
+use Rattle.std.proofs.Common.{◌≡◌, ℕ, ◌+◌, ◌-◌, ◌==◌, Bool, false, List, [], length, Option, None, Some, Result, Ok}
 use Rattle.std.specs.Prelude.{min, filter, nat_lt}
 use Rattle.std.specs.List.{slice_get, list_any, list_all}
 use Rattle.std.specs.Option.{option_or}
@@ -8,11 +8,8 @@ use Rattle.lx_node.specs.Plain.{plain_element}
 use Rattle.lx_node.specs.declared.kind.Kind.TheVariants.{Paragraph, Table, Row, Cell}
 use Rattle.lx_node.specs.declared.fields.Fields.{Fields}
 use Rattle.lx_node.specs.declared.cause.Cause.{Cause}
-use Rattle.lx_node.specs.declared.cause.Cause.TheVariants.{NoSelection}
-use Rattle.lx_node.specs.declared.cause.SelectionKind.TheVariants as kinds
 use Rattle.lx_node.specs.declared.cause.Point.{Point}
-use Rattle.lx_select.specs.declared.selection.Selection.{Selection}
-use Rattle.lx_select.specs.declared.selection.Selection.TheVariants.{Range, Cells}
+use Rattle.lx_select.specs.declared.selection.Selection.TheVariants.{Range}
 use Rattle.lx_forest.specs.Lookups.{kind_of, fields_of, children_of, size_of, index_of}
 use Rattle.lx_draft.specs.Working.{Working}
 use Rattle.lx_draft.specs.Faults.{answer, after}
@@ -28,11 +25,12 @@ use Rattle.lx_blocks.specs.Starts.{start_within}
 use Rattle.lx_table.specs.declared.spots.Spot.{Spot}
 use Rattle.lx_table.specs.declared.rectangles.Rectangle.{Rectangle}
 use Rattle.lx_table.specs.declared.spots.Line.{Line}
+use Rattle.lx_table.specs.declared.places.CellRange.{CellRange}
 use Rattle.lx_table.specs.Spots.{spot_of, spot_at, stands_in_column, end_column, row_beside, column_beside}
 use Rattle.lx_table.specs.Spans.{row_header, column_header, header_of, over_span, with_spans, spans_written, span_step, height_set, heights_set}
 use Rattle.lx_table.specs.Grid.{spots_of, spots_over}
 use Rattle.lx_table.specs.Reading.{header_at, own_index, rectangle_of, gap_in}
-use Rattle.lx_table.specs.Places.{are_attached, focus_of, Place, place_of, at_place, format_of, caret_step, caret_in_step, caret_in_spot}
+use Rattle.lx_table.specs.Places.{selected_cells, focus_of, Place, place_of, at_place, format_of, caret_step, caret_in_step, caret_in_spot}
 use Rattle.lx_table.specs.Making.{cell_fields, cell_made, cells_made, headers_at, cell_made_at, row_made, first_cell, caret_in_cell, table_made, place_fault, table_behind, insert_table_step}
 use Rattle.lx_table.specs.Growing.{crossing, taller, column_filled, row_inserted, insert_row_step, is_bound, column_between, wider_in, column_at_spot, column_in_row, row_widened, column_inserted, insert_column_step}
 use Rattle.lx_table.specs.Shrinking.{table_replaced, first_spot, is_in_row_alone, goes_below, lower, moved_down, all_moved_down, without_at, caret_without_row, row_removed, row_taken, row_deleted, delete_row_step, narrower, is_wide_at, narrow_cells, caret_beside, column_taken, column_deleted, delete_column_step}
@@ -325,22 +323,19 @@ module _ {D : Working → Type 0} {R : Working → Working → Type 0} (way : Is
       (λ s f. by_read way w v (found b (spot_of spots b)) (λ t u. merged_in spots (rectangle_of spots s t) u)
       (λ t g. merged_in_path spots (rectangle_of spots s t) w v r g) f) e
 
-  merged_cells_path : (table a b : ℕ) → Leads D R (merged_cells table a b)
+  merged_cells_path : (c : CellRange) → Leads D R (merged_cells c)
   unfolding merged_cells
-  merged_cells_path table a b w v r e =
-      chained way (heights_set (spots_of w.forest table)) (λ x. merged_between (spots_of w.forest table) a b) (heights_path (spots_of w.forest table))
-      (λ x. merged_between_path (spots_of w.forest table) a b) w v r e
+  merged_cells_path c w v r e =
+      let spots : List Spot = spots_of w.forest c.table in
+      chained way (heights_set spots) (λ x. merged_between spots c.anchor c.focus) (heights_path spots) (λ x. merged_between_path spots c.anchor c.focus) w v r e
 
-  merge_selected_path : (s : Selection) → Leads D R (merge_selected s)
-  merge_selected_path (Cells table a b) w v r e = if_attached (are_attached w.forest table a b) e where
-    if_attached : (t : Bool) → cond t (merged_cells table a b w) (Err (NoSelection kinds.Cells)) ≡ Ok v → R w v
-    if_attached true f = merged_cells_path table a b w v r f
-    if_attached false f = absurd (cc)
-  merge_selected_path _ w v r e = absurd (cc)
+  merge_selected_path : (o : Option CellRange) → Leads D R (merge_selected o)
+  merge_selected_path (Some c) w v r e = merged_cells_path c w v r e
+  merge_selected_path None w v r e = absurd (cc)
 
   pub merge_cells_path : Leads D R merge_cells_step
   unfolding merge_cells_step
-  merge_cells_path w v r e = merge_selected_path w.selection w v r e
+  merge_cells_path w v r e = by_read way w v (selected_cells w) merge_selected (λ o f. merge_selected_path o w v r f) e
 
   row_opened_path : (p : Place) (header row : ℕ) (o : Option ℕ) → Leads D R (row_opened p header row o)
   row_opened_path p header row None w v r e = stays way w v r e
