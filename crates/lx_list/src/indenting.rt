@@ -16,30 +16,21 @@ use lx_edit::{move_children, move_to_end, remove};
 use lx_node::{Fault, Key, Kind};
 use std::alloc::Global;
 
-/// Puts a new item in the place of one, and that one into a list in it that is like its own.
-#[tactic(auto, using(crate::proofs::Made::item_suits, crate::proofs::Made::no_root))]
-fn wrap(alloc: Global, draft: &mut Draft, item: Key, list: Key) -> Result<(), Fault>
-    requires { blocks.is_at kinds.is_list draft.old.forest list ≡ true }
-    ensures { Does (indenting.wrapped_like item (lookups.label_of draft.old.forest list) draft.old) draft.new result }
+/// Puts a new item in the place of one that is in a list, and that one into a list in it that is like its own.
+#[tactic(auto, using(crate::proofs::Above::list_above, crate::proofs::Made::item_suits, crate::proofs::Made::no_root))]
+fn wrap(alloc: Global, draft: &mut Draft, item: Key) -> Result<(), Fault>
+    requires { blocks.is_at kinds.is_item draft.old.forest item ≡ true }
+    ensures { Does (indenting.wrapped_in item (lookups.parent_of draft.old.forest item) draft.old) draft.new result }
 {
+    let Some(list) = draft.links().parent(item) else {
+        return Ok(());
+    };
     let (kind, fields) = like(alloc, draft.links(), list)?;
     let outer = draft.new_node(Kind::Item, item_fields(alloc, None))?;
     let inner = draft.new_node(kind, fields)?;
     draft.put_before(outer, item)?;
     draft.put(inner, outer, 0)?;
     move_to_end(draft, inner, item)
-}
-
-/// The same, where the item is in a list.
-#[tactic(auto, using(crate::proofs::Above::list_above))]
-fn wrap_in(alloc: Global, draft: &mut Draft, item: Key) -> Result<(), Fault>
-    requires { blocks.is_at kinds.is_item draft.old.forest item ≡ true }
-    ensures { Does (indenting.wrapped_in item (lookups.parent_of draft.old.forest item) draft.old) draft.new result }
-{
-    match draft.links().parent(item) {
-        Some(list) => wrap(alloc, draft, item, list),
-        None => Ok(()),
-    }
 }
 
 /// Moves the items of a further list after those of a list, and removes what holds the further one.
@@ -55,21 +46,6 @@ fn take_from(alloc: Global, draft: &mut Draft, list: Key, further: Key) -> Resul
     }
 }
 
-/// Moves an item to the end of a list, and the items of a further list after it.
-#[tactic(auto, unfolding(crate::specs::Indenting::moved_between))]
-fn move_between(
-    alloc: Global,
-    draft: &mut Draft,
-    list: Key,
-    further: Key,
-    item: Key,
-) -> Result<(), Fault>
-    ensures { Does (indenting.moved_between list further item draft.old) draft.new result }
-{
-    move_to_end(draft, list, item)?;
-    take_from(alloc, draft, list, further)
-}
-
 /// Moves an item to the front of a list.
 #[tactic(auto, unfolding(crate::specs::Indenting::moved_to_front))]
 fn move_to_front(draft: &mut Draft, list: Key, item: Key) -> Result<(), Fault>
@@ -80,6 +56,7 @@ fn move_to_front(draft: &mut Draft, list: Key, item: Key) -> Result<(), Fault>
 }
 
 /// Moves an item into the lists that are nested before it and after it, or else into a new one.
+#[tactic(auto, unfolding(crate::specs::Indenting::moved_between))]
 fn nest(
     alloc: Global,
     draft: &mut Draft,
@@ -91,10 +68,13 @@ fn nest(
     ensures { Does (indenting.nested_by before behind item draft.old) draft.new result }
 {
     match (before, behind) {
-        (Some(list), Some(further)) => move_between(alloc, draft, list, further, item),
+        (Some(list), Some(further)) => {
+            move_to_end(draft, list, item)?;
+            take_from(alloc, draft, list, further)
+        }
         (Some(list), None) => move_to_end(draft, list, item),
         (None, Some(list)) => move_to_front(draft, list, item),
-        (None, None) => wrap_in(alloc, draft, item),
+        (None, None) => wrap(alloc, draft, item),
     }
 }
 

@@ -18,49 +18,46 @@ use lx_links::Links;
 use lx_node::{Fault, Key, Kind, ListType};
 use std::alloc::Global;
 
+/// A line, and the type of the list of which it is to be an item.
+#[derive(Clone, Copy, Debug)]
+pub(crate) struct NewItem {
+    pub line: Key,
+    pub list_type: ListType,
+}
+
 /// Puts what is in a line into a new item at a list's end, and removes the line.
 #[tactic(auto, unfolding(crate::specs::Listing::item_made), using(crate::proofs::Made::item_suits))]
-fn make_item(
-    alloc: Global,
-    draft: &mut Draft,
-    list_type: ListType,
-    line: Key,
-    list: Key,
-) -> Result<(), Fault>
-    ensures { Does (listing.item_made list_type line list draft.old) draft.new result }
+fn make_item(alloc: Global, draft: &mut Draft, new: NewItem, list: Key) -> Result<(), Fault>
+    ensures { Does (listing.item_made new.list_type new.line list draft.old) draft.new result }
 {
-    let fields = item_fields(alloc, unchecked(list_type));
+    let fields = item_fields(alloc, unchecked(new.list_type));
     let item = draft.new_node(Kind::Item, fields)?;
     let end = draft.links().size(list);
     draft.put(item, list, end)?;
-    move_children(alloc, draft, line, item)?;
-    remove(draft, line)
+    move_children(alloc, draft, new.line, item)?;
+    remove(draft, new.line)
 }
 
 /// Makes a list before a line, whose only item takes what is in the line.
 #[tactic(auto, unfolding(crate::specs::Listing::list_made), using(crate::proofs::Made::list_suits))]
-fn make_list(alloc: Global, draft: &mut Draft, list_type: ListType, line: Key) -> Result<(), Fault>
-    ensures { Does (listing.list_made list_type line draft.old) draft.new result }
+fn make_list(alloc: Global, draft: &mut Draft, new: NewItem) -> Result<(), Fault>
+    ensures { Does (listing.list_made new.list_type new.line draft.old) draft.new result }
 {
     let fields = list_fields(alloc);
-    let list = draft.new_node(Kind::List(list_type), fields)?;
-    draft.put_before(list, line)?;
-    make_item(alloc, draft, list_type, line, list)
+    let list = draft.new_node(Kind::List(new.list_type), fields)?;
+    draft.put_before(list, new.line)?;
+    make_item(alloc, draft, new, list)
 }
 
 /// Makes a line an item of the list before it, where that is one of the type, and else of a new one.
-fn itemize(alloc: Global, draft: &mut Draft, list_type: ListType, line: Key) -> Result<(), Fault>
-    ensures { Does (listing.itemized list_type line (lookups.previous_of draft.old.forest line) draft.old) draft.new result }
+fn itemize(alloc: Global, draft: &mut Draft, new: NewItem) -> Result<(), Fault>
+    ensures { Does (listing.itemized new.list_type new.line (lookups.previous_of draft.old.forest new.line) draft.old) draft.new result }
 {
-    match draft.links().previous(line) {
-        Some(list) => {
-            if is_list_of_at(draft.links(), list_type, list) {
-                make_item(alloc, draft, list_type, line, list)
-            } else {
-                make_list(alloc, draft, list_type, line)
-            }
+    match draft.links().previous(new.line) {
+        Some(list) if is_list_of_at(draft.links(), new.list_type, list) => {
+            make_item(alloc, draft, new, list)
         }
-        None => make_list(alloc, draft, list_type, line),
+        _ => make_list(alloc, draft, new),
     }
 }
 
@@ -78,19 +75,14 @@ fn has_inlines_alone(links: &Links, key: Key) -> bool
 
 /// Gives an item's list the type, and makes any other line an item, where all its children are inline.
 #[tactic(auto, unfolding(crate::specs::Listing::listed))]
-pub(crate) fn list_line(
-    alloc: Global,
-    draft: &mut Draft,
-    list_type: ListType,
-    line: Key,
-) -> Result<(), Fault>
-    ensures { Does (listing.listed list_type line draft.old) draft.new result }
+pub(crate) fn list_line(alloc: Global, draft: &mut Draft, new: NewItem) -> Result<(), Fault>
+    ensures { Does (listing.listed new.list_type new.line draft.old) draft.new result }
 {
     ready(draft)?;
-    if is_item_at(draft.links(), line) {
-        retype_above(alloc, draft, list_type, line)
-    } else if has_inlines_alone(draft.links(), line) {
-        itemize(alloc, draft, list_type, line)
+    if is_item_at(draft.links(), new.line) {
+        retype_above(alloc, draft, new.list_type, new.line)
+    } else if has_inlines_alone(draft.links(), new.line) {
+        itemize(alloc, draft, new)
     } else {
         Ok(())
     }

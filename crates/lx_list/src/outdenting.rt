@@ -75,17 +75,6 @@ fn move_out(alloc: Global, draft: &mut Draft, item: Key, list: Key, outer: Key) 
     }
 }
 
-/// Removes a list in which nothing is left.
-fn remove_if_empty(draft: &mut Draft, list: Key) -> Result<(), Fault>
-    ensures { Does (outdenting.gone_if_empty list draft.old) draft.new result }
-{
-    if draft.links().size(list) == 0 {
-        remove(draft, list)
-    } else {
-        Ok(())
-    }
-}
-
 /// Moves an item out of a list in an outer item. The list goes too where nothing is left in it.
 #[tactic(auto, unfolding(crate::specs::Outdenting::out_of))]
 pub(crate) fn take_out_of(
@@ -99,31 +88,27 @@ pub(crate) fn take_out_of(
     ensures { Does (outdenting.out_of item list outer draft.old) draft.new result }
 {
     move_out(alloc, draft, item, list, outer)?;
-    remove_if_empty(draft, list)
-}
-
-/// The same, where the list is in an item.
-fn take_out_from(alloc: Global, draft: &mut Draft, item: Key, list: Key) -> Result<(), Fault>
-    requires { blocks.is_at kinds.is_list draft.old.forest list ≡ true }
-    ensures { Does (outdenting.out_from item list (lookups.parent_of draft.old.forest list) draft.old) draft.new result }
-{
-    match draft.links().parent(list) {
-        Some(outer) if is_item_at(draft.links(), outer) => {
-            take_out_of(alloc, draft, item, list, outer)
-        }
-        _ => Ok(()),
+    if draft.links().size(list) == 0 {
+        remove(draft, list)
+    } else {
+        Ok(())
     }
 }
 
-/// The same, where the item is in a list.
+/// The same, where the item is in a list and that in an outer item.
 #[tactic(auto, using(crate::proofs::Above::list_above))]
 fn take_out(alloc: Global, draft: &mut Draft, item: Key) -> Result<(), Fault>
     requires { blocks.is_at kinds.is_item draft.old.forest item ≡ true }
     ensures { Does (outdenting.out_by item (lookups.parent_of draft.old.forest item) draft.old) draft.new result }
 {
-    match draft.links().parent(item) {
-        Some(list) => take_out_from(alloc, draft, item, list),
-        None => Ok(()),
+    let Some(list) = draft.links().parent(item) else {
+        return Ok(());
+    };
+    match draft.links().parent(list) {
+        Some(outer) if is_item_at(draft.links(), outer) => {
+            take_out_of(alloc, draft, item, list, outer)
+        }
+        _ => Ok(()),
     }
 }
 

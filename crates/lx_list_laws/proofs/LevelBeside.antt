@@ -7,7 +7,7 @@ use Rattle.lx_node.specs.Kinds.{is_item, is_list}
 use Rattle.lx_trees.proofs.Siblings.{first_of-among, names_without-absent_list, next_in-names_without}
 use Rattle.lx_select.specs.Selection.{has_point_on}
 use Rattle.lx_forest.specs.Forest.{Forest, Label}
-use Rattle.lx_forest.specs.Lookups.{kind_of, parent_of, children_of, children_below, size_of, first_child, previous_of, next_of, is_within, IsForest}
+use Rattle.lx_forest.specs.Lookups.{kind_of, parent_of, children_of, children_below, size_of, first_child, next_of, is_within, IsForest}
 use Rattle.lx_forest.proofs.Lookups.{NoRepeats-children_of, children_of-take_out, has-child, parent_of-self}
 use Rattle.lx_forest.proofs.Siblings.{parent_of-previous, parent_of-next}
 use Rattle.lx_forest.proofs.Walks.{cases_option}
@@ -252,51 +252,72 @@ pub deeper_by : (x : ℕ) (w v : Working) (before behind : Option ℕ) → is_at
 unfolding indented
 deeper_by x w v before behind item e is_before is_behind = rw (item, is_before, is_behind) at e
 
+-- a nesting item is beside x, on a side of it
+record HasBeside (x list : ℕ) (side : List ℕ → ℕ → Option ℕ) (f : Forest) : Type 0 where
+  pub holder : ℕ
+  pub p : ℕ
+  pub up : parent_of f x ≡ Some p
+  pub at : side (children_of f p) x ≡ Some holder
+  pub first : first_child f holder ≡ Some list
+  pub holder_up : parent_of f holder ≡ Some p
+  pub holder_item : is_at is_item f holder ≡ true
+
+beside : (x list : ℕ) (w v u : Working) (side : List ℕ → ℕ → Option ℕ) → GoesAndComes x w v u → side [] x ≡ None
+    → ((holder p : ℕ) → parent_of w.forest x ≡ Some p → side (children_below w.forest (parent_of w.forest x)) x ≡ Some holder → parent_of w.forest holder ≡ Some p)
+    → nested_in w.forest (side (children_below w.forest (parent_of w.forest x)) x) ≡ Some list → HasBeside x list side w.forest
+beside x list w v u side s none up_too nested =
+    let f : Forest = w.forest in
+    let nest = nests f (side (children_below f (parent_of f x)) x) list nested in
+    let at = neighbour_up f x nest.holder side none nest.is in
+    let holder_up : parent_of f nest.holder ≡ Some at.0 = up_too nest.holder at.0 at.1 nest.is in
+    let is_up : is_at is_list f at.0 ≡ true = list_above f x at.0 s.held s.item at.1 in
+    record {
+      holder = nest.holder;
+      p = at.0;
+      up = at.1;
+      at = at.2;
+      first = nest.first;
+      holder_up = holder_up;
+      holder_item = item_below f at.0 nest.holder s.held is_up holder_up;
+    }
+
+abbrev went_in : (x list : ℕ) (w v u : Working) (side : List ℕ → ℕ → Option ℕ) → GoesAndComes x w v u → (b : HasBeside x list side w.forest) → b.holder ≢ x
+    → children_of w.forest list ≢ [] → (place : Option ℕ) → WasMoved w.forest v.forest list x place
+    → (has_point_on b.p w.selection ≡ false → has_point_on list w.selection ≡ false → v.selection ≡ w.selection) → WentIn x list b.p b.holder w v
+went_in x list w v u side s b apart some place went stays = record {
+  in_order = s.ready.in_order;
+  item = s.item;
+  holder_item = b.holder_item;
+  up = b.up;
+  holder_up = b.holder_up;
+  apart = apart;
+  first = b.first;
+  some = some;
+  place = place;
+  went = went;
+  stays = stays;
+}
+
 pub behind_and_back : (x list : ℕ) (w v u : Working) → GoesAndComes x w v u → nested_before w.forest x ≡ Some list → nested_behind w.forest x ≡ None
     → children_of w.forest list ≢ [] → (u.forest ≡ w.forest) × PointsStay x w v u
 behind_and_back x list w v u s before behind some =
     let f : Forest = w.forest in
-    let nest = nests f (previous_of f x) list before in
-    let at = neighbour_up f x nest.holder previous_in refl nest.is in
-    let holder_up : parent_of f nest.holder ≡ Some at.0 = parent_of-previous f x nest.holder at.0 s.ready.in_order at.1 nest.is in
-    let is_up : is_at is_list f at.0 ≡ true = list_above f x at.0 s.held s.item at.1 in
+    let b : HasBeside x list previous_in f =
+    beside x list w v u previous_in s refl (λ holder p up is. parent_of-previous f x holder p s.ready.in_order up is) before in
     let step : moved_to_end list x w ≡ Ok v = deeper_by x w v (Some list) None s.item s.deeper before behind in
-    let went : WentIn x list at.0 nest.holder w v = record {
-      in_order = s.ready.in_order;
-      item = s.item;
-      holder_item = item_below f at.0 nest.holder s.held is_up holder_up;
-      up = at.1;
-      holder_up = holder_up;
-      apart = λ e. before_itself None x (children_of f at.0) refl (at.2 ∙ ap Some e);
-      first = nest.first;
-      some = some;
-      place = None;
-      went = was_moved_to_end list x w v step;
-      stays = to_end_stays list x at.0 w v step at.1;
-    } in
-    back_behind x list at.0 nest.holder w v u went refl at.2 s.up
+    let went : WentIn x list b.p b.holder w v =
+    went_in x list w v u previous_in s b (λ e. before_itself None x (children_of f b.p) refl (b.at ∙ ap Some e)) some None
+    (was_moved_to_end list x w v step) (to_end_stays list x b.p w v step b.up) in
+    back_behind x list b.p b.holder w v u went refl b.at s.up
 
 pub ahead_and_back : (x list : ℕ) (w v u : Working) → GoesAndComes x w v u → nested_before w.forest x ≡ None → nested_behind w.forest x ≡ Some list
     → children_of w.forest list ≢ [] → (u.forest ≡ w.forest) × PointsStay x w v u
 ahead_and_back x list w v u s before behind some =
     let f : Forest = w.forest in
-    let nest = nests f (next_of f x) list behind in
-    let at = neighbour_up f x nest.holder next_in refl nest.is in
-    let holder_up : parent_of f nest.holder ≡ Some at.0 = parent_of-next f x nest.holder at.0 s.ready.in_order at.1 nest.is in
-    let is_up : is_at is_list f at.0 ≡ true = list_above f x at.0 s.held s.item at.1 in
+    let b : HasBeside x list next_in f =
+    beside x list w v u next_in s refl (λ holder p up is. parent_of-next f x holder p s.ready.in_order up is) behind in
     let step : moved_to_front list x w ≡ Ok v = deeper_by x w v None (Some list) s.item s.deeper before behind in
-    let went : WentIn x list at.0 nest.holder w v = record {
-      in_order = s.ready.in_order;
-      item = s.item;
-      holder_item = item_below f at.0 nest.holder s.held is_up holder_up;
-      up = at.1;
-      holder_up = holder_up;
-      apart = λ e. next_apart (children_of f at.0) x nest.holder (NoRepeats-children_of f at.0 s.ready.in_order) at.2 (sym e);
-      first = nest.first;
-      some = some;
-      place = first_of (names_without x (children_of f list));
-      went = was_moved_to_front list x w v s.ready.in_order step;
-      stays = to_front_stays list x at.0 w v step at.1;
-    } in
-    back_ahead x list at.0 nest.holder w v u went (ap first_of (names_without-absent_list x (children_of f list) (absent x list at.0 nest.holder w v went)))
-    at.2 s.up
+    let went : WentIn x list b.p b.holder w v =
+    went_in x list w v u next_in s b (λ e. next_apart (children_of f b.p) x b.holder (NoRepeats-children_of f b.p s.ready.in_order) b.at (sym e)) some
+    (first_of (names_without x (children_of f list))) (was_moved_to_front list x w v s.ready.in_order step) (to_front_stays list x b.p w v step b.up) in
+    back_ahead x list b.p b.holder w v u went (ap first_of (names_without-absent_list x (children_of f list) (absent x list b.p b.holder w v went))) b.at s.up

@@ -1,9 +1,10 @@
 -- Steps about nodes on which no point is leave the selection as it is.
-use Rattle.std.proofs.Common.{◌≡◌, ◌≢◌, ◌∙◌, ℕ, ◌==◌, true, false, Option, Some, Ok, refl, sym, ap, arith}
+use Rattle.std.proofs.Common.{◌≡◌, ◌≢◌, ◌∙◌, ℕ, ◌==◌, true, false, Option, Some, Result, Ok, refl, sym, ap, arith}
 use Rattle.std.specs.Option.{option_or}
 use Rattle.std.proofs.lemmas.Bool.{or_parts}
 use Rattle.std.proofs.lemmas.Bool.Decides.{eqb_tells}
 use Rattle.lx_trees.specs.Siblings.{is_among}
+use Rattle.lx_node.specs.declared.cause.Cause.{Cause}
 use Rattle.lx_node.specs.declared.cause.Point.{Point}
 use Rattle.lx_select.specs.declared.selection.Selection.{Selection}
 use Rattle.lx_select.specs.declared.selection.Selection.TheVariants.{Range}
@@ -14,7 +15,7 @@ use Rattle.lx_forest.specs.Forest.{Forest}
 use Rattle.lx_forest.specs.Lookups.{parent_of, children_of, size_of, next_of, index_of, is_within, IsForest}
 use Rattle.lx_links.specs.Faults.{detach_fault}
 use Rattle.lx_draft.specs.Working.{Working}
-use Rattle.lx_draft.specs.Faults.{over_counts, put_fault}
+use Rattle.lx_draft.specs.Faults.{after, over_counts, put_fault}
 use Rattle.lx_draft.specs.Steps.{take_points, node_taken, node_placed, take_step, put_step}
 use Rattle.lx_draft.specs.Beside.{gap_index, put_before_step, put_behind_step}
 use Rattle.lx_draft.proofs.Covered.{answered}
@@ -84,25 +85,29 @@ to_front_stays to k p w v e up off off_to =
     let taken = take_stays k p w a.0 a.1 up off in
     put_stays k to 0 a.0 v a.2 (ap (has_point_on to) taken ∙ off_to) ∙ taken
 
-pub moved_before_stays : (other k from p : ℕ) (w v : Working) → IsForest w.forest → parent_of w.forest other ≡ Some p → other ≢ k
-    → moved_before other k w ≡ Ok v → parent_of w.forest k ≡ Some from
+-- a node taken out and put beside another leaves the selection, where no point is on the parent that it comes from or goes to
+abbrev pub BesideStays : (ℕ → ℕ → Working → Result Working Cause) → Type 0
+BesideStays step = (other k from p : ℕ) (w v : Working) → IsForest w.forest → parent_of w.forest other ≡ Some p → other ≢ k
+    → step other k w ≡ Ok v → parent_of w.forest k ≡ Some from
     → has_point_on from w.selection ≡ false → has_point_on p w.selection ≡ false → v.selection ≡ w.selection
-unfolding moved_before
-moved_before_stays other k from p w v h up apart e below off off_to =
-    let a = first_part (take_step k w) (put_before_step k other) v e in
-    let taken = take_stays k from w a.0 a.1 below off in
-    let still = still_there k other p w a.0 h up apart a.1 in
-    before_stays k other p a.0 v still.0 still.1 a.2 (ap (has_point_on p) taken ∙ off_to) ∙ taken
 
-pub moved_behind_stays : (other k from p : ℕ) (w v : Working) → IsForest w.forest → parent_of w.forest other ≡ Some p → other ≢ k
-    → moved_behind other k w ≡ Ok v → parent_of w.forest k ≡ Some from
-    → has_point_on from w.selection ≡ false → has_point_on p w.selection ≡ false → v.selection ≡ w.selection
-unfolding moved_behind
-moved_behind_stays other k from p w v h up apart e below off off_to =
-    let a = first_part (take_step k w) (put_behind_step k other) v e in
+moved_beside_stays : (put : ℕ → ℕ → Working → Result Working Cause)
+    → ((k other p : ℕ) (u v : Working) → IsForest u.forest → parent_of u.forest other ≡ Some p → put k other u ≡ Ok v
+    → has_point_on p u.selection ≡ false → v.selection ≡ u.selection)
+    → BesideStays (λ other k w. after (take_step k w) (put k other))
+moved_beside_stays put put_stays other k from p w v h up apart e below off off_to =
+    let a = first_part (take_step k w) (put k other) v e in
     let taken = take_stays k from w a.0 a.1 below off in
     let still = still_there k other p w a.0 h up apart a.1 in
-    behind_stays k other p a.0 v still.0 still.1 a.2 (ap (has_point_on p) taken ∙ off_to) ∙ taken
+    put_stays k other p a.0 v still.0 still.1 a.2 (ap (has_point_on p) taken ∙ off_to) ∙ taken
+
+pub moved_before_stays : BesideStays moved_before
+unfolding moved_before
+moved_before_stays = moved_beside_stays put_before_step before_stays
+
+pub moved_behind_stays : BesideStays moved_behind
+unfolding moved_behind
+moved_behind_stays = moved_beside_stays put_behind_step behind_stays
 
 -- ---- removed
 

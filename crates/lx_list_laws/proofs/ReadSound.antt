@@ -1,13 +1,12 @@
 -- Each edit leaves a draft in which every node holds what it may, and every node that was there with its kind.
-use Rattle.std.proofs.Common.{◌≡◌, ◌∙◌, ℕ, ◌≤◌, true, false, List, length, Option, None, Some, Ok, refl, sym, ap, subst, arith}
+use Rattle.std.proofs.Common.{◌≡◌, ◌∙◌, ℕ, ◌≤◌, false, List, length, Ok, refl, sym, ap, subst, arith}
 use Rattle.std.specs.Prelude.{slice_get}
 use Rattle.std.specs.Option.{option_or}
 use Rattle.lx_node.specs.Kinds.{may_hold}
 use Rattle.lx_node.specs.Strings.{characters_of}
 use Rattle.lx_node.specs.declared.kind.Kind.{Kind}
 use Rattle.lx_node.specs.declared.fields.Fields.{Fields}
-use Rattle.lx_forest.specs.Forest.{Forest}
-use Rattle.lx_forest.specs.Lookups.{has, label_of, kind_of, children_of, holds, IsForest, IsHeld}
+use Rattle.lx_forest.specs.Lookups.{has, label_of, kind_of, children_of, IsForest, IsHeld}
 use Rattle.lx_forest.specs.Edits.{with_new, with_fields}
 use Rattle.lx_forest.proofs.Held.{IsHeld-with_new, IsHeld-with_fields, IsHeld-take_out, IsHeld-put_in}
 use Rattle.lx_links.specs.Faults.{set_fault}

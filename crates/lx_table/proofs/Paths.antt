@@ -1,6 +1,6 @@
 -- What holds of each step of a draft, and of one after another, holds of what commands of tables are made of. All of them may put
 -- any key.
-use Rattle.std.proofs.Common.{◌≡◌, ℕ, ◌+◌, ◌-◌, ◌==◌, Bool, true, false, cond, List, [], length, Option, None, Some, Result, Ok, Err}
+use Rattle.std.proofs.Common.{◌≡◌, ℕ, ◌+◌, ◌-◌, ◌==◌, Bool, false, List, [], length, Option, None, Some, Result, Ok}
 use Rattle.std.specs.Prelude.{min, filter, nat_lt}
 use Rattle.std.specs.List.{slice_get, list_any, list_all}
 use Rattle.std.specs.Option.{option_or}
@@ -8,11 +8,8 @@ use Rattle.lx_node.specs.Plain.{plain_element}
 use Rattle.lx_node.specs.declared.kind.Kind.TheVariants.{Paragraph, Table, Row, Cell}
 use Rattle.lx_node.specs.declared.fields.Fields.{Fields}
 use Rattle.lx_node.specs.declared.cause.Cause.{Cause}
-use Rattle.lx_node.specs.declared.cause.Cause.TheVariants.{NoSelection}
-use Rattle.lx_node.specs.declared.cause.SelectionKind.TheVariants as kinds
 use Rattle.lx_node.specs.declared.cause.Point.{Point}
-use Rattle.lx_select.specs.declared.selection.Selection.{Selection}
-use Rattle.lx_select.specs.declared.selection.Selection.TheVariants.{Range, Cells}
+use Rattle.lx_select.specs.declared.selection.Selection.TheVariants.{Range}
 use Rattle.lx_forest.specs.Lookups.{kind_of, fields_of, children_of, size_of, index_of}
 use Rattle.lx_draft.specs.Working.{Working}
 use Rattle.lx_draft.specs.Faults.{answer, after}
@@ -27,13 +24,15 @@ use Rattle.lx_blocks.specs.Blocks.{outer_block}
 use Rattle.lx_blocks.specs.Starts.{start_within}
 use Rattle.lx_table.specs.declared.spots.Spot.{Spot}
 use Rattle.lx_table.specs.declared.rectangles.Rectangle.{Rectangle}
-use Rattle.lx_table.specs.Spots.{beside, spot_of, spot_at, stands_in_column, end_column}
+use Rattle.lx_table.specs.declared.spots.Line.{Line}
+use Rattle.lx_table.specs.declared.places.CellRange.{CellRange}
+use Rattle.lx_table.specs.Spots.{spot_of, spot_at, stands_in_column, end_column, row_beside, column_beside}
 use Rattle.lx_table.specs.Spans.{row_header, column_header, header_of, over_span, with_spans, spans_written, span_step, height_set, heights_set}
 use Rattle.lx_table.specs.Grid.{spots_of, spots_over}
 use Rattle.lx_table.specs.Reading.{header_at, own_index, rectangle_of, gap_in}
-use Rattle.lx_table.specs.Places.{are_attached, focus_of, Place, place_of, at_place, format_of, caret_step, caret_in_step, caret_in_spot}
+use Rattle.lx_table.specs.Places.{selected_cells, focus_of, Place, place_of, at_place, format_of, caret_step, caret_in_step, caret_in_spot}
 use Rattle.lx_table.specs.Making.{cell_fields, cell_made, cells_made, headers_at, cell_made_at, row_made, first_cell, caret_in_cell, table_made, place_fault, table_behind, insert_table_step}
-use Rattle.lx_table.specs.Growing.{crossing, taller, column_filled, row_inserted, row_at, insert_row_step, is_bound, column_between, wider_in, column_at_spot, column_in_row, row_widened, column_inserted, column_at, insert_column_step}
+use Rattle.lx_table.specs.Growing.{crossing, taller, column_filled, row_inserted, insert_row_step, is_bound, column_between, wider_in, column_at_spot, column_in_row, row_widened, column_inserted, insert_column_step}
 use Rattle.lx_table.specs.Shrinking.{table_replaced, first_spot, is_in_row_alone, goes_below, lower, moved_down, all_moved_down, without_at, caret_without_row, row_removed, row_taken, row_deleted, delete_row_step, narrower, is_wide_at, narrow_cells, caret_beside, column_taken, column_deleted, delete_column_step}
 use Rattle.lx_table.specs.Merging.{is_empty_paragraph, content_moved, merged_into, is_other_in, all_merged, merged_from, no_gap, merged_in, found, merged_between, merged_cells, merge_selected, merge_cells_step, behind_cell, row_opened, row_unmerged, cell_unmerged, unmerge_step}
 
@@ -143,67 +142,58 @@ module _ {D : Working → Type 0} {R : Working → Working → Type 0} (way : Is
       (λ u. cell_made (header_at u.forest column_header (spot_at spots like column)) key (size_of u.forest key) u)
       (stays way) (λ a b s f. cell_made_path (header_at a.forest column_header (spot_at spots like column)) key (size_of a.forest key) a b s f) w v r e
 
-  row_inserted_path : (table : ℕ) (spots : List Spot) (new like : ℕ) → Leads D R (row_inserted table spots new like)
+  row_inserted_path : (table : ℕ) (spots : List Spot) (line : Line) → Leads D R (row_inserted table spots line)
   unfolding row_inserted
-  row_inserted_path table spots new like w v r e =
-      let cells : ℕ → Working → Result Working Cause = λ k. in_turn (column_filled spots (crossing new spots) like k) (keys_from 0 (end_column spots)) in
-      let put : ℕ → Working → Result Working Cause = λ k u. after (put_step k table new u) (cells k) in
-      chained way (in_turn taller (crossing new spots)) (λ x y. after (new_step Row plain_element y) (put y.next_key))
-      (every way taller (crossing new spots) (λ s. span_path (s.height + 1) s.width s.cell))
+  row_inserted_path table spots line w v r e =
+      let above : List Spot = crossing line.index spots in
+      let cells : ℕ → Working → Result Working Cause = λ k. in_turn (column_filled spots above line.like k) (keys_from 0 (end_column spots)) in
+      let put : ℕ → Working → Result Working Cause = λ k u. after (put_step k table line.index u) (cells k) in
+      chained way (in_turn taller above) (λ x y. after (new_step Row plain_element y) (put y.next_key))
+      (every way taller above (λ s. span_path (s.height + 1) s.width s.cell))
       (λ x. chained way (new_step Row plain_element) (λ y. put y.next_key) (way.new Row plain_element)
-      (λ y. chained way (put_step y.next_key table new) (λ u. cells y.next_key) (puts y.next_key table new)
-      (λ u. every way (column_filled spots (crossing new spots) like y.next_key) (keys_from 0 (end_column spots))
-      (λ i. column_filled_path spots (crossing new spots) like y.next_key i))))
+      (λ y. chained way (put_step y.next_key table line.index) (λ u. cells y.next_key) (puts y.next_key table line.index)
+      (λ u. every way (column_filled spots above line.like y.next_key) (keys_from 0 (end_column spots))
+      (λ i. column_filled_path spots above line.like y.next_key i))))
       w v r e
-
-  -- a row or column before a cell or after it
-  beside_path : (step : ℕ → ℕ → Working → Result Working Cause) → ((new like : ℕ) → Leads D R (step new like)) → (behind : Bool) (first end : ℕ)
-      → Leads D R (λ w. step (beside behind first end).0 (beside behind first end).1 w)
-  beside_path step leads false first end w v r e = leads first first w v r e
-  beside_path step leads true first end w v r e = leads end (end - 1) w v r e
-
-  row_at_path : (behind : Bool) (p : Place) → Leads D R (row_at behind p)
-  row_at_path behind p w v r e =
-      beside_path (row_inserted p.table p.spots) (row_inserted_path p.table p.spots) behind p.spot.row (p.spot.row + p.spot.height) w v r e
 
   pub insert_row_path : (behind : Bool) → Leads D R (insert_row_step behind)
   unfolding insert_row_step
-  insert_row_path behind w v r e = at_place_path (row_at behind) (row_at_path behind) w v r e
+  insert_row_path behind w v r e =
+      at_place_path (λ p. row_inserted p.table p.spots (row_beside behind p.spot))
+      (λ p. row_inserted_path p.table p.spots (row_beside behind p.spot)) w v r e
 
-  column_between_path : (spots : List Spot) (new like row key : ℕ) → Leads D R (column_between spots new like row key)
-  column_between_path spots new like row key w v r e =
-      either way (is_bound spots row new) (λ u. cell_made (header_at u.forest row_header (spot_at spots row like)) key (own_index u.forest spots key row new) u)
-      (λ u. Ok u)
-      (λ a b s f. cell_made_path (header_at a.forest row_header (spot_at spots row like)) key (own_index a.forest spots key row new) a b s f) (stays way) w v r
-      e
+  column_between_path : (spots : List Spot) (line : Line) (row key : ℕ) → Leads D R (column_between spots line row key)
+  column_between_path spots line row key w v r e =
+      let header : Working → ℕ = λ u. header_at u.forest row_header (spot_at spots row line.like) in
+      let index : Working → ℕ = λ u. own_index u.forest spots key row line.index in
+      either way (is_bound spots row line.index) (λ u. cell_made (header u) key (index u) u) (λ u. Ok u)
+      (λ a b s f. cell_made_path (header a) key (index a) a b s f) (stays way) w v r e
 
   wider_in_path : (row : ℕ) (s : Spot) → Leads D R (wider_in row s)
   wider_in_path row s w v r e =
       either way (s.row == row) (span_step s.height (s.width + 1) s.cell) (λ u. Ok u) (span_path s.height (s.width + 1) s.cell) (stays way) w v r e
 
-  column_at_spot_path : (spots : List Spot) (new like row key : ℕ) (o : Option Spot) → Leads D R (column_at_spot spots new like row key o)
-  column_at_spot_path spots new like row key None w v r e = column_between_path spots new like row key w v r e
-  column_at_spot_path spots new like row key (Some s) w v r e =
-      either way (nat_lt s.column new) (wider_in row s) (column_between spots new like row key) (wider_in_path row s)
-      (column_between_path spots new like row key) w v r e
+  column_at_spot_path : (spots : List Spot) (line : Line) (row key : ℕ) (o : Option Spot) → Leads D R (column_at_spot spots line row key o)
+  column_at_spot_path spots line row key None w v r e = column_between_path spots line row key w v r e
+  column_at_spot_path spots line row key (Some s) w v r e =
+      either way (nat_lt s.column line.index) (wider_in row s) (column_between spots line row key) (wider_in_path row s)
+      (column_between_path spots line row key) w v r e
 
-  column_in_row_path : (spots : List Spot) (new like row : ℕ) (o : Option ℕ) → Leads D R (column_in_row spots new like row o)
-  column_in_row_path spots new like row None w v r e = stays way w v r e
-  column_in_row_path spots new like row (Some key) w v r e = column_at_spot_path spots new like row key (spot_at spots row new) w v r e
+  column_in_row_path : (spots : List Spot) (line : Line) (row : ℕ) (o : Option ℕ) → Leads D R (column_in_row spots line row o)
+  column_in_row_path spots line row None w v r e = stays way w v r e
+  column_in_row_path spots line row (Some key) w v r e = column_at_spot_path spots line row key (spot_at spots row line.index) w v r e
 
-  column_inserted_path : (table : ℕ) (spots : List Spot) (new like : ℕ) → Leads D R (column_inserted table spots new like)
+  column_inserted_path : (table : ℕ) (spots : List Spot) (line : Line) → Leads D R (column_inserted table spots line)
   unfolding column_inserted
-  column_inserted_path table spots new like w v r e =
-      every way (row_widened table spots new like) (keys_from 0 (size_of w.forest table))
-      (λ row. λ a b s f. column_in_row_path spots new like row (slice_get (children_of a.forest table) row) a b s f) w v r e
-
-  column_at_path : (behind : Bool) (p : Place) → Leads D R (column_at behind p)
-  column_at_path behind p w v r e =
-      beside_path (column_inserted p.table p.spots) (column_inserted_path p.table p.spots) behind p.spot.column (p.spot.column + p.spot.width) w v r e
+  column_inserted_path table spots line w v r e =
+      every way (row_widened table spots line) (keys_from 0 (size_of w.forest table))
+      (λ row. λ a b s f. column_in_row_path spots line row (slice_get (children_of a.forest table) row) a b s f) w v r e
 
   pub insert_column_path : (behind : Bool) → Leads D R (insert_column_step behind)
   unfolding insert_column_step
-  insert_column_path behind w v r e = at_place_path (column_at behind) (column_at_path behind) w v r e
+  insert_column_path behind w v r e =
+      at_place_path (λ p. column_inserted p.table p.spots (column_beside behind p.spot))
+      (λ p. column_inserted_path p.table p.spots (column_beside behind p.spot)) w v r e
 
   -- ---- rows and columns that go
 
@@ -333,38 +323,36 @@ module _ {D : Working → Type 0} {R : Working → Working → Type 0} (way : Is
       (λ s f. by_read way w v (found b (spot_of spots b)) (λ t u. merged_in spots (rectangle_of spots s t) u)
       (λ t g. merged_in_path spots (rectangle_of spots s t) w v r g) f) e
 
-  merged_cells_path : (table a b : ℕ) → Leads D R (merged_cells table a b)
+  merged_cells_path : (c : CellRange) → Leads D R (merged_cells c)
   unfolding merged_cells
-  merged_cells_path table a b w v r e =
-      chained way (heights_set (spots_of w.forest table)) (λ x. merged_between (spots_of w.forest table) a b) (heights_path (spots_of w.forest table))
-      (λ x. merged_between_path (spots_of w.forest table) a b) w v r e
+  merged_cells_path c w v r e =
+      let spots : List Spot = spots_of w.forest c.table in
+      chained way (heights_set spots) (λ x. merged_between spots c.anchor c.focus) (heights_path spots) (λ x. merged_between_path spots c.anchor c.focus) w v r e
 
-  merge_selected_path : (s : Selection) → Leads D R (merge_selected s)
-  merge_selected_path (Cells table a b) w v r e = if_attached (are_attached w.forest table a b) e where
-    if_attached : (t : Bool) → cond t (merged_cells table a b w) (Err (NoSelection kinds.Cells)) ≡ Ok v → R w v
-    if_attached true f = merged_cells_path table a b w v r f
-    if_attached false f = absurd (cc)
-  merge_selected_path _ w v r e = absurd (cc)
+  merge_selected_path : (o : Option CellRange) → Leads D R (merge_selected o)
+  merge_selected_path (Some c) w v r e = merged_cells_path c w v r e
+  merge_selected_path None w v r e = absurd (cc)
 
   pub merge_cells_path : Leads D R merge_cells_step
   unfolding merge_cells_step
-  merge_cells_path w v r e = merge_selected_path w.selection w v r e
+  merge_cells_path w v r e = by_read way w v (selected_cells w) merge_selected (λ o f. merge_selected_path o w v r f) e
 
-  row_opened_path : (spots : List Spot) (s : Spot) (header row : ℕ) (o : Option ℕ) → Leads D R (row_opened spots s header row o)
-  row_opened_path spots s header row None w v r e = stays way w v r e
-  row_opened_path spots s header row (Some key) w v r e =
+  row_opened_path : (p : Place) (header row : ℕ) (o : Option ℕ) → Leads D R (row_opened p header row o)
+  row_opened_path p header row None w v r e = stays way w v r e
+  row_opened_path p header row (Some key) w v r e =
+      let s : Spot = p.spot in
       either way (row == s.row) (λ u. cells_made header key (behind_cell (index_of u.forest s.cell)) (s.width - 1) u)
-      (λ u. cells_made header key (own_index u.forest spots key row (s.column + 1)) s.width u)
+      (λ u. cells_made header key (own_index u.forest p.spots key row (s.column + 1)) s.width u)
       (λ a b t f. cells_made_path header key (behind_cell (index_of a.forest s.cell)) (s.width - 1) a b t f)
-      (λ a b t f. cells_made_path header key (own_index a.forest spots key row (s.column + 1)) s.width a b t f) w v r e
+      (λ a b t f. cells_made_path header key (own_index a.forest p.spots key row (s.column + 1)) s.width a b t f) w v r e
 
   cell_unmerged_path : (p : Place) → Leads D R (cell_unmerged p)
   unfolding cell_unmerged
   cell_unmerged_path p w v r e =
-      chained way (span_step 1 1 p.spot.cell)
-      (λ x. in_turn (row_unmerged p.table p.spots p.spot (header_of w.forest p.spot.cell)) (keys_from p.spot.row p.spot.height)) (span_path 1 1 p.spot.cell)
-      (λ x. every way (row_unmerged p.table p.spots p.spot (header_of w.forest p.spot.cell)) (keys_from p.spot.row p.spot.height)
-      (λ row. λ a b s f. row_opened_path p.spots p.spot (header_of w.forest p.spot.cell) row (slice_get (children_of a.forest p.table) row) a b s f)) w v r e
+      let header : ℕ = header_of w.forest p.spot.cell in
+      chained way (span_step 1 1 p.spot.cell) (λ x. in_turn (row_unmerged p header) (keys_from p.spot.row p.spot.height)) (span_path 1 1 p.spot.cell)
+      (λ x. every way (row_unmerged p header) (keys_from p.spot.row p.spot.height)
+      (λ row. λ a b s f. row_opened_path p header row (slice_get (children_of a.forest p.table) row) a b s f)) w v r e
 
   pub unmerge_path : Leads D R unmerge_step
   unfolding unmerge_step

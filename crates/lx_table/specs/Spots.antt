@@ -2,6 +2,7 @@
 -- covers from there; commands know a table by its spots.
 use Rattle.std.specs.Prelude.{ℕ, ◌+◌, ◌-◌, ◌≤◌, ◌==◌, ◌&&◌, Bool, true, false, nat_lt, nat_le, max, List, [], ◌∷◌, find, Option}
 use Rattle.std.specs.List.{list_any}
+use Rattle.lx_table.specs.declared.spots.Line.{Line}
 use Rattle.lx_table.specs.declared.spots.Spot.{Spot}
 
 -- a number is one of so many from another on
@@ -42,9 +43,17 @@ end_column [] = 0
 end_column (s ∷ spots) = max (s.column + s.width) (end_column spots)
 
 -- where a new row or column comes before a cell or after it, and which one of the cell is beside it then
-abbrev pub beside : Bool → ℕ → ℕ → ℕ × ℕ
-beside false first end = (first, first)
-beside true first end = (end, end - 1)
+abbrev pub beside : Bool → ℕ → ℕ → Line
+beside false first end = record { index = first; like = first }
+beside true first end = record { index = end; like = end - 1 }
+
+-- a new row before a cell or after it
+abbrev pub row_beside : Bool → Spot → Line
+row_beside behind s = beside behind s.row (s.row + s.height)
+
+-- a new column before a cell or after it
+abbrev pub column_beside : Bool → Spot → Line
+column_beside behind s = beside behind s.column (s.column + s.width)
 
 -- the most nodes among which a table is looked for: so few that spots are small, as no cell spans more than 1000
 -- columns

@@ -1,6 +1,6 @@
 //! A row deleted.
 
-ghost use Rattle.std.specs.Prelude.{◌≡◌, ◌≤◌, ◌-◌, ◌+◌, ◌<◌, [], All, filter, IfOk};
+ghost use Rattle.std.specs.Prelude.{◌≡◌, ◌≤◌, [], All, IfOk};
 ghost use Rattle.std.specs.List.{list_all};
 ghost use Rattle.lx_edit.specs.InTurn.{in_turn};
 ghost use Rattle.lx_edit.specs.Standing.{Does};
@@ -14,9 +14,9 @@ ghost use Rattle.lx_table.specs.Spots.{most_cells, IsSmall};
 
 use crate::caret::{set_caret, set_caret_at};
 use crate::filling::spots_over;
+use crate::lying::{Lying, those_lying};
 use crate::places::{Place, begin};
 use crate::reading::own_index;
-use crate::rows::crossing;
 use crate::spans::set_spans;
 use crate::spots::{Spot, spot_at};
 use lx_draft::Draft;
@@ -52,13 +52,11 @@ fn are_in_row_alone(spots: &[Spot], row: u32) -> bool
 fn lower(alloc: Global, draft: &mut Draft, spot: &Spot) -> Result<(), Fault>
     ensures { Does (spec.lower spot.now draft.old) draft.new result }
 {
-    set_spans(
-        alloc,
-        draft,
-        spot.cell,
-        spot.height.saturating_sub(1),
-        spot.width,
-    )
+    let lower = Spot {
+        height: spot.height.saturating_sub(1),
+        ..*spot
+    };
+    set_spans(alloc, draft, &lower)
 }
 
 /// Takes a row from each cell.
@@ -70,26 +68,6 @@ fn lower_each(alloc: Global, draft: &mut Draft, spots: &[Spot]) -> Result<(), Fa
         lower(alloc, draft, spot)?;
     }
     Ok(())
-}
-
-/// Whether a cell starts in a row and goes on below.
-fn goes_below(spot: &Spot, row: u32) -> bool
-    ensures { result ≡ spec.goes_below row spot.now }
-{
-    spot.row == row && 1 < spot.height
-}
-
-/// The cells that start in a row and go on below.
-fn going_below(alloc: Global, spots: &[Spot], row: u32) -> Result<Vec<Spot>, NoMemory>
-    ensures { IfOk result (λ found. found.items ≡ filter (spec.goes_below row) spots.now) }
-{
-    Ok(
-        spots
-            .iter()
-            .filter(|spot| goes_below(spot, row))
-            .copied()
-            .collect(alloc)?,
-    )
 }
 
 /// Moves a cell into the next row, before the first own cell there of a greater column.
@@ -141,7 +119,7 @@ fn move_all_down(
 {
     match next {
         Some(next) => {
-            let moved = going_below(alloc, spots, row)?;
+            let moved = those_lying(alloc, spots, Lying::DownFromRow(row))?;
             move_each_down(alloc, draft, spots, next, &moved)
         }
         None => Ok(()),
@@ -228,32 +206,24 @@ fn remove_row(draft: &mut Draft, row: Option<Key>) -> Result<(), Fault>
     }
 }
 
-/// Takes a row out, whose other cells stay: those that come from above or go on below lose it.
+/// Deletes the row of a cell. Cells that come from above or go on below lose it, and stay. Where no other cell is in the table,
+/// that goes.
 #[tactic(auto, unfolding(crate::specs::Shrinking::row_taken))]
-fn take_row(alloc: Global, draft: &mut Draft, place: &Place) -> Result<(), Fault>
+fn delete_row_of(alloc: Global, draft: &mut Draft, place: &Place) -> Result<(), Fault>
     requires { places.IsSmallPlace place.now }
-    ensures { Does (spec.row_taken place.now.table place.now.spots.items place.now.spot.row place.now.spot.column draft.old) draft.new result }
+    ensures { Does (spec.row_deleted (places.place_seen place.now) draft.old) draft.new result }
 {
     let row = place.spot.row;
-    let above = crossing(alloc, &place.spots, row)?;
+    if are_in_row_alone(&place.spots, row) {
+        return replace_table(alloc, draft, place.table);
+    }
+    let above = those_lying(alloc, &place.spots, Lying::AcrossRow(row))?;
     lower_each(alloc, draft, &above)?;
     let next = draft.links().child_at(place.table, row + 1);
     move_all_down(alloc, draft, &place.spots, row, next)?;
     set_caret_without_row(alloc, draft, place.table, row, place.spot.column)?;
     let key = draft.links().child_at(place.table, row);
     remove_row(draft, key)
-}
-
-/// Deletes the row of a cell.
-fn delete_row_of(alloc: Global, draft: &mut Draft, place: &Place) -> Result<(), Fault>
-    requires small { places.IsSmallPlace place.now }
-    ensures { Does (spec.row_deleted (places.place_seen place.now) draft.old) draft.new result }
-{
-    if are_in_row_alone(&place.spots, place.spot.row) {
-        replace_table(alloc, draft, place.table)
-    } else {
-        take_row(alloc, draft, place)
-    }
 }
 
 /// Deletes the first row of the caret's cell. A cell that comes from above loses the row. One that goes on below loses it too,

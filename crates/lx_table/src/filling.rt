@@ -1,6 +1,6 @@
 //! The grid of a table, found row by row.
 
-ghost use Rattle.std.specs.Prelude.{◌≡◌, ◌+◌, ◌-◌, ◌<◌, ◌≤◌, ◌++◌, ◌∷◌, [], All, IfOk, OnOk, IfErr, length, min, filter};
+ghost use Rattle.std.specs.Prelude.{◌≡◌, ◌+◌, ◌<◌, ◌≤◌, ◌++◌, ◌∷◌, [], All, IfOk, OnOk, IfErr, length, filter};
 ghost use Rattle.std.specs.List.{insert};
 ghost use Rattle.std.specs.Option.{option_or};
 ghost use Rattle.lx_trees.specs.NamedTrees.{total};
@@ -13,7 +13,6 @@ ghost use Rattle.lx_draft.specs.Selecting.{unlike};
 ghost use Rattle.lx_table.specs.Filling as filling;
 ghost use Rattle.lx_table.specs.Filling.{IsFilling, IsPlaced};
 ghost use Rattle.lx_table.specs.Grid as spec;
-ghost use Rattle.lx_table.specs.Spans as spans;
 ghost use Rattle.lx_table.specs.Spots.{most_cells, IsSmall};
 
 use crate::grids::Grid;
@@ -24,38 +23,30 @@ use lx_links::Links;
 use lx_node::{Cause, Fault, Key, Kind, NoMemory};
 use std::alloc::Global;
 
-/// The first column from which on so many have room between cells that are in a row, by their columns.
-fn column_between(standing: &[Spot], width: u32) -> u32
-    requires small { All IsSmall standing.now }
-    requires width { width ≤ 1000 }
-    ensures { result ≡ filling.column_on standing.now width 0 }
-{
-    let mut column = 0;
-    for spot in standing {
-        if column + width <= spot.column {
-            return column;
-        }
-        column = right(spot).max(column);
-    }
-    column
+/// Where so many columns have room between cells that are in a row: from which column on, and after how many of the cells.
+#[derive(Clone, Copy)]
+struct Room {
+    column: u32,
+    passed: usize,
 }
 
-/// How many of the cells that are in a row, by their columns, are in front of that column.
-fn passed_between(standing: &[Spot], width: u32) -> usize
+/// The first room between cells that are in a row, by their columns.
+fn room_between(standing: &[Spot], width: u32) -> Room
     requires small { All IsSmall standing.now }
     requires width { width ≤ 1000 }
-    ensures passed { result ≡ filling.passed_on standing.now width 0 }
+    ensures column { result.column ≡ filling.column_on standing.now width 0 }
+    ensures passed { result.passed ≡ filling.passed_on standing.now width 0 }
 {
     let mut column = 0;
     let mut passed = 0;
     for spot in standing {
         if column + width <= spot.column {
-            return passed;
+            return Room { column, passed };
         }
         column = right(spot).max(column);
         passed += 1;
     }
-    passed
+    Room { column, passed }
 }
 
 /// The cells that are in a row too, of those that are in the one above.
@@ -65,16 +56,31 @@ fn keep_standing(standing: &mut Vec<Spot>, row: u32)
     standing.retain(|spot| stands_in_row(spot, row));
 }
 
+/// What a grid is found from: the nodes, the cells among them that are gone, and how many rows there are.
+#[derive(Clone, Copy)]
+struct Given<'a> {
+    links: &'a Links,
+    gone: &'a [Key],
+    rows: u32,
+}
+
+/// The spots of the cells so far, and of these the ones that are in the row at hand, by their columns.
+#[derive(Drop)]
+struct Found {
+    spots: Vec<Spot>,
+    standing: Vec<Spot>,
+}
+
 /// Where a cell of a row is: at the first column where it has room between those that are there.
-fn place_cell(standing: &[Spot], links: &Links, rows: u32, row: u32, cell: Key) -> Spot
+fn place_cell(standing: &[Spot], given: &Given<'_>, row: u32, cell: Key) -> Spot
     requires small { All IsSmall standing.now }
-    requires row { row < rows }
-    ensures { IsPlaced links.now rows row cell standing.now result }
+    requires row { row < given.now.rows }
+    ensures { IsPlaced given.now.links.now given.now.rows row cell standing.now result }
 {
-    let spans = spans_of(links, cell);
+    let spans = spans_of(given.links, cell);
     let width = spans.columns as u32;
-    let height = (spans.rows as u32).min(rows - row);
-    let column = column_between(standing, width);
+    let height = (spans.rows as u32).min(given.rows - row);
+    let column = room_between(standing, width).column;
     Spot {
         cell,
         row,
@@ -91,30 +97,23 @@ fn put_standing(standing: &mut Vec<Spot>, spot: &Spot) -> Result<(), NoMemory>
     requires width { spot.now.width ≤ 1000 }
     ensures { OnOk result (standing.new.items ≡ insert standing.old.items (filling.passed_on standing.old.items spot.now.width 0) spot.now) }
 {
-    let passed = passed_between(standing, spot.width);
+    let passed = room_between(standing, spot.width).passed;
     standing.insert(passed, *spot)?;
     Ok(())
 }
 
 /// Adds the spot of a cell of a row.
-fn add_cell(
-    spots: &mut Vec<Spot>,
-    standing: &mut Vec<Spot>,
-    links: &Links,
-    rows: u32,
-    row: u32,
-    cell: Key,
-) -> Result<(), NoMemory>
-    requires filling { IsFilling row spots.old.items standing.old.items }
-    requires row { row < rows }
-    requires rows { rows ≤ most_cells }
-    requires few { length spots.old.items < most_cells }
-    ensures spots { OnOk result (spots.new.items ≡ spots.old.items ++ spec.spot_behind links.now rows row spots.old.items cell ∷ []) }
-    ensures filling { OnOk result (IsFilling row spots.new.items standing.new.items) }
+fn add_cell(found: &mut Found, given: &Given<'_>, row: u32, cell: Key) -> Result<(), NoMemory>
+    requires filling { IsFilling row found.old.spots.items found.old.standing.items }
+    requires row { row < given.now.rows }
+    requires rows { given.now.rows ≤ most_cells }
+    requires few { length found.old.spots.items < most_cells }
+    ensures spots { OnOk result (found.new.spots.items ≡ found.old.spots.items ++ spec.spot_behind given.now.links.now given.now.rows row found.old.spots.items cell ∷ []) }
+    ensures filling { OnOk result (IsFilling row found.new.spots.items found.new.standing.items) }
 {
-    let spot = place_cell(standing, links, rows, row, cell);
-    put_standing(standing, &spot)?;
-    spots.push(spot)?;
+    let spot = place_cell(&found.standing, given, row, cell);
+    put_standing(&mut found.standing, &spot)?;
+    found.spots.push(spot)?;
     Ok(())
 }
 
@@ -127,49 +126,38 @@ fn is_one_of(keys: &[Key], key: Key) -> bool
 
 /// Adds the spot of a cell of a row, unless it is gone.
 fn add_unless_gone(
-    spots: &mut Vec<Spot>,
-    standing: &mut Vec<Spot>,
-    links: &Links,
-    rows: u32,
+    found: &mut Found,
+    given: &Given<'_>,
     row: u32,
     cell: Key,
-    gone: &[Key],
 ) -> Result<(), NoMemory>
-    requires filling { IsFilling row spots.old.items standing.old.items }
-    requires row { row < rows }
-    requires rows { rows ≤ most_cells }
-    requires few { length spots.old.items < most_cells }
-    ensures spots { OnOk result (spots.new.items ≡ spec.row_filled links.now rows row (filter (filling.is_left gone.now) (cell ∷ [])) spots.old.items) }
-    ensures filling { OnOk result (IsFilling row spots.new.items standing.new.items) }
-    ensures more { OnOk result (length spots.new.items ≤ length spots.old.items + 1) }
+    requires filling { IsFilling row found.old.spots.items found.old.standing.items }
+    requires row { row < given.now.rows }
+    requires rows { given.now.rows ≤ most_cells }
+    requires few { length found.old.spots.items < most_cells }
+    ensures spots { OnOk result (found.new.spots.items ≡ spec.row_filled given.now.links.now given.now.rows row (filter (filling.is_left given.now.gone.now) (cell ∷ [])) found.old.spots.items) }
+    ensures filling { OnOk result (IsFilling row found.new.spots.items found.new.standing.items) }
+    ensures more { OnOk result (length found.new.spots.items ≤ length found.old.spots.items + 1) }
 {
-    if is_one_of(gone, cell) {
+    if is_one_of(given.gone, cell) {
         Ok(())
     } else {
-        add_cell(spots, standing, links, rows, row, cell)
+        add_cell(found, given, row, cell)
     }
 }
 
 /// Fills a row with its cells, but for those that are gone.
-fn fill_row(
-    spots: &mut Vec<Spot>,
-    standing: &mut Vec<Spot>,
-    links: &Links,
-    rows: u32,
-    row: u32,
-    key: Key,
-    gone: &[Key],
-) -> Result<(), NoMemory>
-    requires filling { IsFilling row spots.old.items standing.old.items }
-    requires row { row < rows }
-    requires rows { rows ≤ most_cells }
-    requires few { length spots.old.items + lookups.size_of links.now key ≤ most_cells }
-    ensures spots { OnOk result (spots.new.items ≡ spec.row_filled links.now rows row (spec.cells_left links.now gone.now key) spots.old.items) }
-    ensures filling { OnOk result (IsFilling row spots.new.items standing.new.items) }
-    ensures more { OnOk result (length spots.new.items ≤ length spots.old.items + lookups.size_of links.now key) }
+fn fill_row(found: &mut Found, given: &Given<'_>, row: u32, key: Key) -> Result<(), NoMemory>
+    requires filling { IsFilling row found.old.spots.items found.old.standing.items }
+    requires row { row < given.now.rows }
+    requires rows { given.now.rows ≤ most_cells }
+    requires few { length found.old.spots.items + lookups.size_of given.now.links.now key ≤ most_cells }
+    ensures spots { OnOk result (found.new.spots.items ≡ spec.row_filled given.now.links.now given.now.rows row (spec.cells_left given.now.links.now given.now.gone.now key) found.old.spots.items) }
+    ensures filling { OnOk result (IsFilling row found.new.spots.items found.new.standing.items) }
+    ensures more { OnOk result (length found.new.spots.items ≤ length found.old.spots.items + lookups.size_of given.now.links.now key) }
 {
-    for cell in links.children(key) {
-        add_unless_gone(spots, standing, links, rows, row, cell, gone)?;
+    for cell in given.links.children(key) {
+        add_unless_gone(found, given, row, cell)?;
     }
     Ok(())
 }
@@ -186,16 +174,22 @@ pub(crate) fn spots_over(
     ensures spots { IfOk result (λ spots. spots.items ≡ spec.spots_over links.now gone.now keys.now) }
     ensures small { IfOk result (λ spots. All IsSmall spots.items) }
 {
-    let mut spots = Vec::new(alloc);
-    let mut standing = Vec::new(alloc);
-    let rows = keys.len() as u32;
+    let given = Given {
+        links,
+        gone,
+        rows: keys.len() as u32,
+    };
+    let mut found = Found {
+        spots: Vec::new(alloc),
+        standing: Vec::new(alloc),
+    };
     let mut row = 0;
     for key in keys {
-        keep_standing(&mut standing, row);
-        fill_row(&mut spots, &mut standing, links, rows, row, *key, gone)?;
+        keep_standing(&mut found.standing, row);
+        fill_row(&mut found, &given, row, *key)?;
         row += 1;
     }
-    Ok(spots)
+    Ok(found.spots)
 }
 
 /// The spots of a table.

@@ -19,6 +19,7 @@ mod filling;
 mod grids;
 mod inserting;
 mod laws;
+mod lying;
 mod merging;
 mod narrowing;
 mod places;

@@ -1,6 +1,6 @@
 //! A column deleted.
 
-ghost use Rattle.std.specs.Prelude.{◌≡◌, ◌≤◌, ◌-◌, ◌<◌, filter, map, IfOk};
+ghost use Rattle.std.specs.Prelude.{◌≡◌, ◌≤◌, IfOk};
 ghost use Rattle.lx_edit.specs.InTurn.{in_turn};
 ghost use Rattle.lx_edit.specs.Edits.{remove_step};
 ghost use Rattle.lx_edit.specs.Standing.{Does};
@@ -14,6 +14,7 @@ ghost use Rattle.lx_table.specs.Spots.{most_cells};
 use crate::caret::set_caret_at;
 use crate::deleting::{first_spot, replace_table};
 use crate::filling::spots_over;
+use crate::lying::{Lying, those_lying};
 use crate::places::{Place, begin};
 use crate::spans::set_spans;
 use crate::spots::{Spot, end_column, spot_at, stands_in_column};
@@ -23,31 +24,11 @@ use lx_links::Links;
 use lx_node::{Fault, Key, NoMemory};
 use std::alloc::Global;
 
-/// Whether a cell is in a column and in others too.
-fn is_wide_at(spot: &Spot, column: u32) -> bool
-    ensures { result ≡ spec.is_wide_at column spot.now }
-{
-    stands_in_column(spot, column) && spot.width != 1
-}
-
 /// Whether a cell is in a column and in no other.
 fn is_narrow_at(spot: &Spot, column: u32) -> bool
     ensures { result ≡ spec.is_narrow_at column spot.now }
 {
     stands_in_column(spot, column) && spot.width == 1
-}
-
-/// The cells that are in a column and in others too.
-fn wide_at(alloc: Global, spots: &[Spot], column: u32) -> Result<Vec<Spot>, NoMemory>
-    ensures { IfOk result (λ found. found.items ≡ filter (spec.is_wide_at column) spots.now) }
-{
-    Ok(
-        spots
-            .iter()
-            .filter(|spot| is_wide_at(spot, column))
-            .copied()
-            .collect(alloc)?,
-    )
 }
 
 /// The keys of the cells that are in a column and in no other.
@@ -63,26 +44,17 @@ fn narrow_cells(alloc: Global, spots: &[Spot], column: u32) -> Result<Vec<Key>, 
     )
 }
 
-/// Takes a column from a cell.
-fn narrow(alloc: Global, draft: &mut Draft, spot: &Spot) -> Result<(), Fault>
-    ensures { Does (spec.narrower spot.now draft.old) draft.new result }
-{
-    set_spans(
-        alloc,
-        draft,
-        spot.cell,
-        spot.height,
-        spot.width.saturating_sub(1),
-    )
-}
-
 /// Takes a column from each cell.
 #[tactic(auto, unfolding(lx_edit::specs::InTurn::in_turn))]
 fn narrow_each(alloc: Global, draft: &mut Draft, spots: &[Spot]) -> Result<(), Fault>
     ensures { Does (in_turn spec.narrower spots.now draft.old) draft.new result }
 {
     for spot in spots {
-        narrow(alloc, draft, spot)?;
+        let narrower = Spot {
+            width: spot.width.saturating_sub(1),
+            ..*spot
+        };
+        set_spans(alloc, draft, &narrower)?;
     }
     Ok(())
 }
@@ -123,30 +95,23 @@ fn remove_each(draft: &mut Draft, cells: &[Key]) -> Result<(), Fault>
     Ok(())
 }
 
-/// Takes a column out: its cells lose it, and those that are in no other are removed.
+/// Deletes the column of a cell: its cells lose it, and those that are in no other are removed. The only column goes with the
+/// table.
 #[tactic(auto, unfolding(crate::specs::Shrinking::column_taken))]
-fn take_column(alloc: Global, draft: &mut Draft, place: &Place) -> Result<(), Fault>
-    ensures { Does (spec.column_taken place.now.table place.now.spots.items place.now.spot.row place.now.spot.column draft.old) draft.new result }
+fn delete_column_of(alloc: Global, draft: &mut Draft, place: &Place) -> Result<(), Fault>
+    requires { places.IsSmallPlace place.now }
+    ensures { Does (spec.column_deleted (places.place_seen place.now) draft.old) draft.new result }
 {
+    if end_column(&place.spots) == 1 {
+        return replace_table(alloc, draft, place.table);
+    }
     let spot = &place.spot;
-    let wide = wide_at(alloc, &place.spots, spot.column)?;
+    let wide = those_lying(alloc, &place.spots, Lying::BesideColumn(spot.column))?;
     narrow_each(alloc, draft, &wide)?;
     let gone = narrow_cells(alloc, &place.spots, spot.column)?;
     let left = spots_without(alloc, draft.links(), &gone, place.table)?;
     set_caret_beside(draft, &left, spot.row, spot.column)?;
     remove_each(draft, &gone)
-}
-
-/// Deletes the column of a cell.
-fn delete_column_of(alloc: Global, draft: &mut Draft, place: &Place) -> Result<(), Fault>
-    requires small { places.IsSmallPlace place.now }
-    ensures { Does (spec.column_deleted (places.place_seen place.now) draft.old) draft.new result }
-{
-    if end_column(&place.spots) == 1 {
-        replace_table(alloc, draft, place.table)
-    } else {
-        take_column(alloc, draft, place)
-    }
 }
 
 /// Deletes the first column of the caret's cell. A cell that is in other columns too loses it, and the others there are

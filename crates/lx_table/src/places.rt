@@ -29,18 +29,25 @@ pub(crate) struct Place {
     pub spot: Spot,
 }
 
+/// Cells that are selected: those of a table from one to another.
+#[derive(Clone, Copy)]
+pub(crate) struct CellRange {
+    pub table: Key,
+    pub anchor: Key,
+    pub focus: Key,
+}
+
 /// Whether the keys of cells that are selected are in the root's tree.
-pub(crate) fn are_attached(links: &Links, table: Key, anchor: Key, focus: Key) -> bool
+fn are_attached(links: &Links, table: Key, anchor: Key, focus: Key) -> bool
     ensures { result ≡ spec.are_attached links.now table anchor focus }
 {
     links.is_attached(table) && (links.is_attached(anchor) && links.is_attached(focus))
 }
 
-/// The focus of a range or of cells. It is refused with `NoSelection` and what the selection is, where that is neither. So it
-/// is where a point or key of it isn't in the root's tree, and where one point is in another cell than the other.
-#[tactic(auto, unfolding(crate::specs::Places::focus_of))]
-pub(crate) fn focus_of(draft: &Draft) -> Result<Key, Fault>
-    ensures gives { Gives (spec.focus_of draft.now) (λ key. key) draft.now result }
+/// The cells that are selected, if some are. They are refused with `NoSelection` where one of their keys isn't in the root's tree.
+#[tactic(auto, unfolding(crate::specs::Places::selected_cells))]
+pub(crate) fn selected_cells(draft: &Draft) -> Result<Option<CellRange>, Fault>
+    ensures gives { Gives (spec.selected_cells draft.now) (λ cells. cells) draft.now result }
     ensures living { OnOk result (draft.now.forest ≢ nil) }
 {
     admitted(draft, None)?;
@@ -51,12 +58,29 @@ pub(crate) fn focus_of(draft: &Draft) -> Result<Key, Fault>
             focus,
         } => {
             if are_attached(draft.links(), *table, *anchor, *focus) {
-                Ok(*focus)
+                Ok(Some(CellRange {
+                    table: *table,
+                    anchor: *anchor,
+                    focus: *focus,
+                }))
             } else {
                 Err(no_range(SelectionKind::Cells))
             }
         }
-        _ => {
+        _ => Ok(None),
+    }
+}
+
+/// The focus of a range or of cells. It is refused with `NoSelection` and what the selection is, where that is neither. So it
+/// is where a point or key of it isn't in the root's tree, and where one point is in another cell than the other.
+#[tactic(auto, unfolding(crate::specs::Places::focus_of))]
+pub(crate) fn focus_of(draft: &Draft) -> Result<Key, Fault>
+    ensures gives { Gives (spec.focus_of draft.now) (λ key. key) draft.now result }
+    ensures living { OnOk result (draft.now.forest ≢ nil) }
+{
+    match selected_cells(draft)? {
+        Some(cells) => Ok(cells.focus),
+        None => {
             let range = range_of(draft)?;
             Ok(range.focus.key)
         }

@@ -31,10 +31,10 @@ use Rattle.lx_edit.specs.Texts.{keys_from}
 use Rattle.lx_edit.proofs.Climbed.{answered, first_part, sent_away-forest, taken-forest}
 use Rattle.lx_edit.proofs.Covered.{covered_path}
 use Rattle.lx_blocks.specs.Blocks.{cell_of}
-use Rattle.lx_table.specs.Spots.{spot_of, spot_at, is_of_cell, end_column}
+use Rattle.lx_table.specs.Spots.{spot_of, spot_at, is_of_cell, end_column, row_beside}
 use Rattle.lx_table.specs.Grid.{spots_of, spots_over, grid_of}
 use Rattle.lx_table.specs.Places.{Place, place, place_among, place_below, table_above, place_of_cell, needed, focus_of, place_of, at_place, caret_step, caret_in_step, caret_in_spot}
-use Rattle.lx_table.specs.Growing.{crosses_row, crossing, taller, column_filled, row_inserted, row_at, insert_row_step}
+use Rattle.lx_table.specs.Growing.{crosses_row, crossing, taller, column_filled, row_inserted, insert_row_step}
 use Rattle.lx_table.specs.Shrinking.{first_spot, is_in_row_alone, goes_below, lower, moved_down, all_moved_down, without_at, caret_without_row, row_removed, row_taken, row_deleted, delete_row_step}
 use Rattle.lx_table_laws.specs.Laws.{new_row}
 use Rattle.lx_table.proofs.Kept.{found_has}
@@ -125,7 +125,7 @@ changed change w h y table new ready set e =
 
 comes : (w h v : Working) (table new like i k : ℕ) → IsReady w → slice_get (children_of w.forest table) i ≡ Some k
     → heights_set (spots_of w.forest table) w ≡ Ok h
-    → row_inserted table (spots_of w.forest table) new like h ≡ Ok v → HasCome w.forest table new v
+    → row_inserted table (spots_of w.forest table) (record { index = new; like = like }) h ≡ Ok v → HasCome w.forest table new v
 unfolding row_inserted
 comes w h v table new like i k ready at set e =
     let spots : List Spot = spots_of w.forest table in
@@ -282,8 +282,8 @@ placed : (w v : Working) (p : Place) (command : Place → Working → Result Wor
 placed w v p command at e =
     first_part (heights_set p.spots w) (command p) v (sym (ap (λ r. after r (λ (q : Place). after (heights_set q.spots w) (command q))) at) ∙ e)
 
-inserted_at : (behind : Bool) (p : Place) (w v : Working) → row_at behind p w ≡ Ok v
-    → (like : ℕ) × (row_inserted p.table p.spots (new_row behind p.spot) like w ≡ Ok v)
+inserted_at : (behind : Bool) (p : Place) (w v : Working) → row_inserted p.table p.spots (row_beside behind p.spot) w ≡ Ok v
+    → (like : ℕ) × (row_inserted p.table p.spots (record { index = new_row behind p.spot; like = like }) w ≡ Ok v)
 inserted_at false p w v e = (p.spot.row, e)
 inserted_at true p w v e = (p.spot.row + p.spot.height - 1, e)
 
@@ -297,11 +297,11 @@ rows_come_and_go behind w v u s p q ready at inserts at_new table row deletes =
     let new : ℕ = new_row behind p.spot in
     let x : Working = record v { selection = s } in
     let was : IsTold w.forest p = place_told w p at in
-    let a = placed w v p (row_at behind) at inserts in
+    let a = placed w v p (λ z. row_inserted z.table z.spots (row_beside behind z.spot)) at inserts in
     let b = inserted_at behind p a.0 v a.2 in
     let come_v : HasCome f p.table new v =
     comes w a.0 v p.table new b.0 p.spot.row was.own.key ready was.own.row (sym (ap (λ z. heights_set z w) was.spots) ∙ a.1)
-    (sym (ap (λ z. row_inserted p.table z new b.0 a.0) was.spots) ∙ b.1) in
+    (sym (ap (λ z. row_inserted p.table z (record { index = new; like = b.0 }) a.0) was.spots) ∙ b.1) in
     let come : HasCome f p.table new x = record {
       row = come_v.row;
       set = come_v.set;
