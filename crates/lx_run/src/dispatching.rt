@@ -31,20 +31,6 @@ pub(crate) fn is_nothing(sent: &Payload) -> bool
     matches!(sent, Payload::Nothing)
 }
 
-/// Does a built-in command after its count. Those of the history take no payload, and are refused among steps.
-fn do_built_in(running: &mut Running<'_>, command: BuiltIn, sent: &Payload) -> Result<(), Fault>
-    ensures ok { OnOk result (spec.done_by command sent.now running.old ≡ Ok running.new) }
-    ensures err { IfErr result (λ e. TellsStep e (spec.done_by command sent.now running.old)) }
-{
-    match command {
-        BuiltIn::Turn(_) if is_nothing(sent) => Err(Fault::Cause(Cause::HistoryInside)),
-        BuiltIn::Turn(_) => Err(Fault::Cause(Cause::BadCommand)),
-        BuiltIn::Caret(command) => running.do_caret(command, sent),
-        BuiltIn::List(command) => running.do_list(command, sent),
-        BuiltIn::Table(command) => running.do_table(command, sent),
-    }
-}
-
 /// Runs steps one after another. Dispatches in them may nest `left` deep.
 #[cycle(dispatch)]
 #[tactic(auto, unfolding(crate::specs::Running::steps_in))]
@@ -85,9 +71,7 @@ pub(crate) fn run_step<'a>(
     }
     match step {
         Step::Do(command) => match BuiltIn::named(command.name.as_str()) {
-            Some(built_in) => {
-                do_built_in(running, built_in, payload_for(sent, &command.payload))
-            }
+            Some(built_in) => running.do_command(built_in, payload_for(sent, &command.payload)),
             None => Err(Fault::Cause(Cause::BadCommand)),
         },
         Step::Dispatch(command) => {
@@ -133,7 +117,7 @@ pub(crate) fn dispatch<'a>(
                 Ok(()) => {}
                 Err(cause) => return Err(Fault::Cause(cause)),
             }
-            match do_built_in(running, command, payload) {
+            match running.do_command(command, payload) {
                 Ok(()) => Ok(true),
                 Err(fault) => Err(fault),
             }

@@ -59,16 +59,16 @@ pub dispatch-returns-in-Err-count-clause-err : goal.dispatch-returns-in-Err-coun
 dispatch-returns-in-Err-count-clause-err t c =
     dispatched_counted (passed (goal.at.dispatch-returns-in-Err-count-clause-err t c).After-named) c.in-Some.is c.in-Err-count.ensures.err
 
-pub dispatch-returns-in-Err-do_built_in-clause-err : goal.dispatch-returns-in-Err-do_built_in-clause-err
-dispatch-returns-in-Err-do_built_in-clause-err t c =
-    let at = goal.at.dispatch-returns-in-Err-do_built_in-clause-err t c in
-    told_of c.in-Err-do_built_in.fault _ _ (λ cause e. dispatched_done (passed at.After-named) c.in-Some.is c.in-Ok.ensures.ok e)
-    c.in-Err-do_built_in.ensures.err
+pub dispatch-returns-in-Err-do_command-clause-err : goal.dispatch-returns-in-Err-do_command-clause-err
+dispatch-returns-in-Err-do_command-clause-err t c =
+    let at = goal.at.dispatch-returns-in-Err-do_command-clause-err t c in
+    told_of c.in-Err-do_command.fault _ _ (λ cause e. dispatched_done (passed at.After-named) c.in-Some.is c.in-Ok.ensures.ok e)
+    c.in-Err-do_command.ensures.err
 
-pub dispatch-returns-in-Ok-do_built_in-clause-ok : goal.dispatch-returns-in-Ok-do_built_in-clause-ok
-dispatch-returns-in-Ok-do_built_in-clause-ok t c =
-    dispatched_done (passed (goal.at.dispatch-returns-in-Ok-do_built_in-clause-ok t c).After-named) c.in-Some.is c.in-Ok.ensures.ok
-    c.in-Ok-do_built_in.ensures.ok
+pub dispatch-returns-in-Ok-do_command-clause-ok : goal.dispatch-returns-in-Ok-do_command-clause-ok
+dispatch-returns-in-Ok-do_command-clause-ok t c =
+    dispatched_done (passed (goal.at.dispatch-returns-in-Ok-do_command-clause-ok t c).After-named) c.in-Some.is c.in-Ok.ensures.ok
+    c.in-Ok-do_command.ensures.ok
 
 pub dispatch-returns-in-None-clause-ok : goal.dispatch-returns-in-None-clause-ok
 dispatch-returns-in-None-clause-ok t c = rw (behind_it c) at c.offer_all-in-None.ensures.ok
