@@ -14,4 +14,3 @@ pub mod Paced
 pub mod Paths
 pub mod Runs
 pub mod Stays
-pub mod Words
