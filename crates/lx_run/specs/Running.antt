@@ -15,6 +15,7 @@ use Rattle.lx_bus.specs.Offers.{above, behind}
 use Rattle.lx_draft.specs.Faults.{after}
 use Rattle.lx_draft.specs.Steps.{count_step}
 use Rattle.lx_run.specs.Commands.{command_step}
+use Rattle.lx_run.specs.declared.dispatching.Dispatcher.{Dispatcher}
 use Rattle.lx_run.specs.Holding.{holds}
 use Rattle.lx_run.specs.Scripts.{Scripted, on_draft, effect_of}
 
@@ -127,6 +128,10 @@ dispatched zero ls name sent m = Err DispatchDepth
 dispatched (suc left) ls name sent m =
     after (offered (dispatched left ls) sent (above name ls) m)
     (unless_handled (built_in_or (built_in name) (dispatched left ls) sent (behind name ls)))
+
+-- what a dispatcher does with a command
+abbrev pub dispatches : Dispatcher → Dispatching
+dispatches d = dispatched d.left d.bus.now
 
 -- how deep dispatches may nest
 abbrev pub most_nested : ℕ
