@@ -1,6 +1,5 @@
 -- How many children a node has beside another.
-use Rattle.std.proofs.Common.{◌≡◌, ◌∙◌, ◌+◌, ℕ, Bool, true, false, cond, eqb, length, Option, None, Some, refl, sym, subst, arith}
-use Rattle.std.proofs.lemmas.Bool.Decides.{eqb_tells}
+use Rattle.std.proofs.Common.{◌≡◌, ◌+◌, ℕ, false, cond, length, Some, refl, subst, arith}
 use Rattle.lx_trees.specs.Trees.{nil, tree}
 use Rattle.lx_trees.specs.Siblings.{is_named, names_without}
 use Rattle.lx_trees.proofs.Siblings.{length-names_without}
@@ -16,7 +15,7 @@ in_all f k p h =
     subst (λ b. length (names_without k (children_of f p)) + cond b 1 0 ≡ size_of f p) (is_among-children_of f k p h)
     (length-names_without k (children_of f p) (NoRepeats-children_of f p h))
 
-beside_child : (f : Forest) (k p : ℕ) → Sound f → parent_of f k ≡ Some p → length (names_without k (children_of f p)) + 1 ≡ size_of f p
+pub beside_child : (f : Forest) (k p : ℕ) → Sound f → parent_of f k ≡ Some p → length (names_without k (children_of f p)) + 1 ≡ size_of f p
 beside_child f k p s up = let all = in_all f k p (in_order f k p s up) in grind (arith, all, up)
 
 pub beside_other : (f : Forest) (k p : ℕ) → Sound f → is_named (parent_of f k) p ≡ false → size_of f p ≡ length (names_without k (children_of f p))
@@ -25,18 +24,3 @@ beside_other (tree l below rest) k p s other =
     let f : Forest = tree l below rest in
     let all = in_all f k p (s.in_order (λ none. cc)) in
     grind (arith, all, other)
-
--- the parent that a test finds
-parent_told : (o p : Option ℕ) (a q : ℕ) (t : Bool) → o ≡ p → o ≡ Some a → t ≡ eqb a q → t ≡ true → p ≡ Some q
-parent_told o p a q t same some test so = grind (arith, eqb_tells a q, same, some, test, so)
-
--- ... and how many children it has then
-pub beside_told : (f : Forest) (k q : ℕ) (o : Option ℕ) (a : ℕ) (t : Bool) → Sound f → o ≡ parent_of f k → o ≡ Some a → t ≡ eqb a q → t ≡ true
-    → length (names_without k (children_of f q)) + 1 ≡ size_of f q
-beside_told f k q o a t s same some test so = beside_child f k q s (parent_told o (parent_of f k) a q t same some test so)
-
-pub other_told : (o p : Option ℕ) (a q : ℕ) (t : Bool) → o ≡ p → o ≡ Some a → t ≡ eqb a q → t ≡ false → is_named p q ≡ false
-other_told o p a q t same some test so = rw (sym same ∙ some) (grind (arith, eqb_tells a q, eqb_tells q a, test, so))
-
-pub no_parent_told : (o p : Option ℕ) (q : ℕ) → o ≡ p → o ≡ None → is_named p q ≡ false
-no_parent_told o p q same none = rw (sym same ∙ none) refl

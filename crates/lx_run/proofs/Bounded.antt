@@ -10,11 +10,10 @@ use Rattle.lx_node.specs.declared.cause.Cause.{Cause}
 use Rattle.lx_node.specs.declared.cause.Cause.TheVariants.{StepLimit}
 use Rattle.lx_select.specs.declared.selection.Selection.{Selection}
 use Rattle.lx_forest.specs.Forest.{Forest}
-use Rattle.lx_forest.specs.Lookups.{fields_of, label_of}
 use Rattle.lx_links.specs.Faults.{unknown, set_fault, detach_fault}
 use Rattle.lx_draft.specs.Working.{Working}
 use Rattle.lx_draft.specs.Faults.{answer, over_counts, over_written, over_limits, put_fault, splice_fault}
-use Rattle.lx_draft.specs.Steps.{differ, marked_if, fields_written, set_points, splice_points, label_with_piece, count_step, new_step, set_step, splice_step, take_step, put_step, mark_step, select_step}
+use Rattle.lx_draft.specs.Steps.{marked_if, count_step, new_step, set_step, splice_step, take_step, put_step, mark_step, select_step}
 use Rattle.lx_draft.proofs.Put.{both_none}
 use Rattle.lx_edit.proofs.Climbed.{answered}
 use Rattle.lx_edit.proofs.Counted.{Any}
@@ -42,13 +41,9 @@ second_of first second none = (both_none first second none).1
 of_limits : (more : ℕ) (w : Working) → over_limits more w ≡ None → over_counts w ≡ None
 of_limits more w none = (both_none (over_counts w) (over_written more w) none).0
 
-marked-counted : (b : Bool) (f : Forest) (k : ℕ) (w : Working) → (marked_if b f k w).counted ≡ w.counted
-marked-counted true f k w = refl
-marked-counted false f k w = refl
-
-refielded-counted : (k : ℕ) (fields : Fields) (more : ℕ) (moved : Selection → Selection) (w : Working)
-    → (fields_written k fields more moved w).counted ≡ w.counted + 1
-refielded-counted k fields more moved w = marked-counted (differ (fields_of w.forest k) fields) w.forest k _
+marked_if-counted : (b : Bool) (f : Forest) (k : ℕ) (w : Working) → (marked_if b f k w).counted ≡ w.counted
+marked_if-counted true f k w = refl
+marked_if-counted false f k w = refl
 
 new_within : (kind : Kind) (fields : Fields) (w v : Working) → new_step kind fields w ≡ Ok v → KeepsMost w v
 unfolding new_step
@@ -59,14 +54,14 @@ unfolding set_step
 set_within k fields w v e =
     counts_within w v _ (option_or (set_fault k fields w.forest) (over_limits (characters_of fields) w)) e
     (λ none. of_limits (characters_of fields) w (second_of (set_fault k fields w.forest) (over_limits (characters_of fields) w) none))
-    (refielded-counted k fields (characters_of fields) (set_points k fields) w)
+    (marked_if-counted _ w.forest k _)
 
 splice_within : (k from to : ℕ) (new : List ℕ) (w v : Working) → splice_step k from to new w ≡ Ok v → KeepsMost w v
 unfolding splice_step
 splice_within k from to new w v e =
     counts_within w v _ (option_or (splice_fault k from to w.forest) (over_limits (length new) w)) e
     (λ none. of_limits (length new) w (second_of (splice_fault k from to w.forest) (over_limits (length new) w) none))
-    (refielded-counted k (label_with_piece (label_of w.forest k) from to new) (length new) (splice_points k from to new) w)
+    (marked_if-counted _ w.forest k _)
 
 take_within : (k : ℕ) (w v : Working) → take_step k w ≡ Ok v → KeepsMost w v
 unfolding take_step

@@ -6,16 +6,12 @@ use Rattle.lx_draft.proofs.CoveredSteps.{covered-count, covered-mark, covered-se
 use Rattle.lx_edit.proofs.Covered.{covered_path}
 use Rattle.lx_edit.proofs.Paths.{self}
 use Rattle.lx_run.specs.Running.{Running, on_script, take_count}
-use Rattle.lx_run.specs.Carets.{caret_step}
-use Rattle.lx_run.specs.Lists.{list_step}
+use Rattle.lx_run.specs.Commands.{command_step}
 use Rattle.lx_run.specs.Scripts.{Scripted, on_draft, effect_of}
-use Rattle.lx_run.specs.Tables.{table_step}
-use Rattle.lx_run.proofs.CaretPaths.{caret_reaches}
-use Rattle.lx_run.proofs.ListPaths.{list_reaches}
+use Rattle.lx_run.proofs.CommandPaths.{command_reaches}
 use Rattle.lx_run.proofs.Paced.{count_taken, left_as}
 use Rattle.lx_run.proofs.Paths.{IsScriptPath, Reaches, effect_path}
 use Rattle.lx_run.proofs.Stays.{IsKept, IsOfScripts}
-use Rattle.lx_run.proofs.TablePaths.{table_reaches}
 
 covered_scripts : IsScriptPath IsReady AreCovered
 covered_scripts = record {
@@ -46,9 +42,7 @@ covered = record {
   on = λ m n o a b. covered_path.composed m.script.draft n.script.draft o.script.draft a b;
   counted = λ m n ready e. covered_count m n ready e;
   plain = λ s m n ready e. covered_on (effect_of s) m n (effect_path covered_scripts s) ready e;
-  does = λ command sent m n ready e. covered_on (on_draft (caret_step command sent)) m n (caret_reaches covered_scripts command sent) ready e;
-  lists = λ command sent m n ready e. covered_on (on_draft (list_step command sent)) m n (list_reaches covered_scripts command sent) ready e;
-  tables = λ command sent m n ready e. covered_on (on_draft (table_step command sent)) m n (table_reaches covered_scripts command sent) ready e;
+  does = λ command sent m n ready e. covered_on (on_draft (command_step command sent)) m n (command_reaches covered_scripts command sent) ready e;
   later = λ m n steps sent ready e. covered_count m n ready e;
 }
 

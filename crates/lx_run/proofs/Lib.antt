@@ -1,7 +1,7 @@
 pub mod Beside
 pub mod Beyond
 pub mod Bounded
-pub mod CaretPaths
+pub mod CommandPaths
 pub mod Composed
 pub mod Counted
 pub mod Covered
@@ -9,11 +9,8 @@ pub mod Emptied
 pub mod Ends
 pub mod Gathered
 pub mod Held
-pub mod ListPaths
 pub mod Made
 pub mod Paced
 pub mod Paths
 pub mod Runs
 pub mod Stays
-pub mod TablePaths
-pub mod Words

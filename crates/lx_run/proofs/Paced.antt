@@ -12,17 +12,13 @@ use Rattle.lx_draft.specs.Faults.{after}
 use Rattle.lx_draft.specs.Steps.{count_step}
 use Rattle.lx_edit.proofs.Counted.{Any, KeepsCounts}
 use Rattle.lx_run.specs.Scripts.{Scripted, scripted, on_draft, effect_of}
-use Rattle.lx_run.specs.Carets.{caret_step}
-use Rattle.lx_run.specs.Lists.{list_step}
+use Rattle.lx_run.specs.Commands.{command_step}
 use Rattle.lx_run.specs.Running.{Running, running, on_script, take_count, queued, done_if, payload_for, effect_in, step_in, dispatched}
-use Rattle.lx_run.specs.Tables.{table_step}
-use Rattle.lx_run.proofs.CaretPaths.{caret_reaches}
-use Rattle.lx_run.proofs.ListPaths.{list_reaches}
 use Rattle.lx_run.proofs.Bounded.{KeepsMost, count_within, within_scripts}
+use Rattle.lx_run.proofs.CommandPaths.{command_reaches}
 use Rattle.lx_run.proofs.Counted.{count-counted, counted_scripts}
 use Rattle.lx_run.proofs.Paths.{Reaches, effect_path}
 use Rattle.lx_run.proofs.Stays.{Makes, makes_told, makes_on, makes_from, makes_then, IsKept, IsOfScripts, done_keeps, dispatched_keeps}
-use Rattle.lx_run.proofs.TablePaths.{table_reaches}
 
 -- what is queued takes counts
 pub record IsPaced (m n : Running) : Type 0 where
@@ -105,13 +101,8 @@ paced = record {
       { counted = omega (arith, p.counted, q.counted); queued = omega (arith, p.queued, q.queued, p.counted, q.counted); most = λ few. q.most (p.most few) };
   counted = λ m n r e. paced_count m n e;
   plain = λ s m n r e. paced_plain s m n e;
-  does = λ command sent m n r e. paced_on (on_draft (caret_step command sent)) m n (caret_reaches counted_scripts command sent)
-      (caret_reaches within_scripts command sent) e;
-  lists = λ command sent m n r e. paced_on (on_draft (list_step command sent)) m n (list_reaches counted_scripts command sent)
-      (list_reaches within_scripts command sent) e;
-  tables =
-      λ command sent m n r e. paced_on (on_draft (table_step command sent)) m n (table_reaches counted_scripts command sent)
-      (table_reaches within_scripts command sent) e;
+  does = λ command sent m n r e. paced_on (on_draft (command_step command sent)) m n (command_reaches counted_scripts command sent)
+      (command_reaches within_scripts command sent) e;
   later = λ m n steps sent r e. paced_later m n steps sent e;
 }
 
@@ -129,8 +120,6 @@ counts_on = record {
   counted = λ m n r e. (paced.counted m n r e).counted;
   plain = λ s m n r e. (paced.plain s m n r e).counted;
   does = λ command sent m n r e. (paced.does command sent m n r e).counted;
-  lists = λ command sent m n r e. (paced.lists command sent m n r e).counted;
-  tables = λ command sent m n r e. (paced.tables command sent m n r e).counted;
   later = λ m n steps sent r e. (paced.later m n steps sent r e).counted;
 }
 

@@ -2,26 +2,18 @@
 -- any depth, and by all that is queued.
 use Rattle.std.proofs.Common.{◌≡◌, ℕ, zero, suc, Bool, true, false, List, [], ◌∷◌, Option, None, Some, Result, Ok, Err, refl, if◌then◌else◌}
 use Rattle.lx_node.specs.declared.cause.Cause.{Cause}
-use Rattle.lx_node.specs.declared.cause.Cause.TheVariants.{BadCommand, HistoryInside}
 use Rattle.lx_step.specs.BuiltIns.{built_in}
 use Rattle.lx_step.specs.Spelled.{steps_of}
 use Rattle.lx_step.specs.declared.built_in.BuiltIn.{BuiltIn}
-use Rattle.lx_step.specs.declared.built_in.BuiltIn.TheVariants.{Turn, Caret, List as list, Table}
-use Rattle.lx_step.specs.declared.built_in.CaretCommand.{CaretCommand}
-use Rattle.lx_step.specs.declared.built_in.ListCommand.{ListCommand}
-use Rattle.lx_step.specs.declared.built_in.TableCommand.{TableCommand}
 use Rattle.lx_step.specs.declared.command.Payload.{Payload}
 use Rattle.lx_step.specs.declared.listener.Listener.{Listener}
 use Rattle.lx_step.specs.declared.step.Step.{Step}
 use Rattle.lx_step.specs.declared.step.Step.TheVariants as step
 use Rattle.lx_bus.specs.Offers.{above, behind}
 use Rattle.lx_draft.specs.Faults.{after}
-use Rattle.lx_run.specs.Carets.{caret_step}
-use Rattle.lx_run.specs.Lists.{list_step}
 use Rattle.lx_run.specs.Holding.{holds}
-use Rattle.lx_run.specs.Scripts.{on_draft, effect_of}
-use Rattle.lx_run.specs.Tables.{table_step}
-use Rattle.lx_run.specs.Running.{Running, Queued, Dispatching, running, on_script, take_count, queued, is_nothing, done_by, done_if, payload_for, effect_in, step_in, steps_in, answered, offer, offered, unless_handled, built_in_or, dispatched, most_nested, in_turn, emptied}
+use Rattle.lx_run.specs.Scripts.{effect_of}
+use Rattle.lx_run.specs.Running.{Running, Queued, Dispatching, running, on_script, take_count, queued, done_by, done_if, payload_for, effect_in, step_in, steps_in, answered, offer, offered, unless_handled, built_in_or, dispatched, most_nested, in_turn, emptied}
 
 -- what is made, if it is, is so
 abbrev pub Makes : {A E : Type 0} → (A → Type 0) → Result A E → Type 0
@@ -53,9 +45,7 @@ pub record IsKept (D : Running → Type 0) (R : Running → Running → Type 0) 
   pub on : (m n o : Running) → R m n → R n o → R m o
   pub counted : (m n : Running) → D m → take_count m ≡ Ok n → R m n
   pub plain : (s : Step) (m n : Running) → D m → on_script (effect_of s) m ≡ Ok n → R m n
-  pub does : (command : CaretCommand) (sent : Payload) (m n : Running) → D m → on_script (on_draft (caret_step command sent)) m ≡ Ok n → R m n
-  pub lists : (command : ListCommand) (sent : Payload) (m n : Running) → D m → on_script (on_draft (list_step command sent)) m ≡ Ok n → R m n
-  pub tables : (command : TableCommand) (sent : Payload) (m n : Running) → D m → on_script (on_draft (table_step command sent)) m ≡ Ok n → R m n
+  pub does : (command : BuiltIn) (sent : Payload) (m n : Running) → D m → done_by command sent m ≡ Ok n → R m n
   pub later : (m n : Running) (steps : List Step) (sent : Payload) → D m → take_count m ≡ Ok n → R m (queued steps sent n)
 
 abbrev pub Keeps : (Running → Type 0) → (Running → Running → Type 0) → Dispatching → Type 0
@@ -73,20 +63,9 @@ unless P next n false p q = q
 
 -- ---- built-in commands
 
--- what is refused anyway makes nothing
-refused_either : {A : Type 0} (P : A → Type 0) (b : Bool) (cause other : Cause) → Makes P (if b then Err cause else Err other)
-refused_either P true cause other = tt
-refused_either P false cause other = tt
-
 built_in_keeps : (D : Running → Type 0) (R : Running → Running → Type 0) → IsKept D R → (command : BuiltIn) (sent : Payload) (m : Running) → D m
     → Makes (R m) (done_by command sent m)
-built_in_keeps D R kept (Turn turn) sent m ready = refused_either (R m) (is_nothing sent) HistoryInside BadCommand
-built_in_keeps D R kept (Caret command) sent m ready =
-    makes_told (R m) (on_script (on_draft (caret_step command sent)) m) (λ n e. kept.does command sent m n ready e)
-built_in_keeps D R kept (list command) sent m ready =
-    makes_told (R m) (on_script (on_draft (list_step command sent)) m) (λ n e. kept.lists command sent m n ready e)
-built_in_keeps D R kept (Table command) sent m ready =
-    makes_told (R m) (on_script (on_draft (table_step command sent)) m) (λ n e. kept.tables command sent m n ready e)
+built_in_keeps D R kept command sent m ready = makes_told (R m) (done_by command sent m) (λ n e. kept.does command sent m n ready e)
 
 pub done_keeps : (D : Running → Type 0) (R : Running → Running → Type 0) → IsKept D R → (o : Option BuiltIn) (sent : Payload) (m : Running) → D m
     → Makes (R m) (done_if o sent m)

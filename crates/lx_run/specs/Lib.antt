@@ -1,6 +1,5 @@
 pub mod Appending
-pub mod Carets
-pub mod Lists
+pub mod Commands
 pub mod Naming
 pub mod Scripts
 pub mod Stepping
@@ -8,4 +7,3 @@ pub mod Holding
 pub mod Running
 pub mod Refusals
 pub mod Lines
-pub mod Tables

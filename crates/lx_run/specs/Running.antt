@@ -1,11 +1,10 @@
 -- What a line works on while its steps run, with commands that are dispatched and steps that are queued.
 use Rattle.std.specs.Prelude.{ℕ, zero, suc, ◌++◌, Bool, true, false, if◌then◌else◌, List, [], ◌∷◌, Option, None, Some, Result, Ok, Err}
 use Rattle.lx_node.specs.declared.cause.Cause.{Cause}
-use Rattle.lx_node.specs.declared.cause.Cause.TheVariants.{BadCommand, DispatchDepth, HistoryInside}
+use Rattle.lx_node.specs.declared.cause.Cause.TheVariants.{BadCommand, DispatchDepth}
 use Rattle.lx_step.specs.BuiltIns.{built_in}
 use Rattle.lx_step.specs.Spelled.{steps_of}
 use Rattle.lx_step.specs.declared.built_in.BuiltIn.{BuiltIn}
-use Rattle.lx_step.specs.declared.built_in.BuiltIn.TheVariants.{Turn, Caret, List as list, Table}
 use Rattle.lx_step.specs.declared.command.Command.{Command}
 use Rattle.lx_step.specs.declared.command.Payload.{Payload}
 use Rattle.lx_step.specs.declared.command.Payload.TheVariants as payload
@@ -15,11 +14,10 @@ use Rattle.lx_step.specs.declared.step.Step.TheVariants as step
 use Rattle.lx_bus.specs.Offers.{above, behind}
 use Rattle.lx_draft.specs.Faults.{after}
 use Rattle.lx_draft.specs.Steps.{count_step}
-use Rattle.lx_run.specs.Carets.{caret_step}
+use Rattle.lx_run.specs.Commands.{command_step}
+use Rattle.lx_run.specs.declared.dispatching.Dispatcher.{Dispatcher}
 use Rattle.lx_run.specs.Holding.{holds}
-use Rattle.lx_run.specs.Lists.{list_step}
 use Rattle.lx_run.specs.Scripts.{Scripted, on_draft, effect_of}
-use Rattle.lx_run.specs.Tables.{table_step}
 
 -- steps that are queued, with the payload that "@payload" stands for in them
 pub record Queued : Type 0 where
@@ -58,12 +56,9 @@ abbrev pub is_nothing : Payload → Bool
 is_nothing payload.Nothing = true
 is_nothing other = false
 
--- What a built-in command does with a payload. The history takes none, and among steps it goes nowhere.
+-- what a built-in command does with a payload
 abbrev pub done_by : BuiltIn → Payload → Running → Result Running Cause
-done_by (Turn turn) sent m = if is_nothing sent then Err HistoryInside else Err BadCommand
-done_by (Caret command) sent m = on_script (on_draft (caret_step command sent)) m
-done_by (list command) sent m = on_script (on_draft (list_step command sent)) m
-done_by (Table command) sent m = on_script (on_draft (table_step command sent)) m
+done_by command sent m = on_script (on_draft (command_step command sent)) m
 
 -- what the built-in command of a name does, if there is one
 abbrev pub done_if : Option BuiltIn → Payload → Running → Result Running Cause
@@ -133,6 +128,10 @@ dispatched zero ls name sent m = Err DispatchDepth
 dispatched (suc left) ls name sent m =
     after (offered (dispatched left ls) sent (above name ls) m)
     (unless_handled (built_in_or (built_in name) (dispatched left ls) sent (behind name ls)))
+
+-- what a dispatcher does with a command
+abbrev pub dispatches : Dispatcher → Dispatching
+dispatches d = dispatched d.left d.bus.now
 
 -- how deep dispatches may nest
 abbrev pub most_nested : ℕ

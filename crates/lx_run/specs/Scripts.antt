@@ -1,5 +1,5 @@
 -- Scripts: steps that run one after another on a draft.
-use Rattle.std.specs.Prelude.{ℕ, ◌==◌, ◌||◌, nat_lt, if◌then◌else◌, List, [], ◌∷◌, codes, length, Option, None, Some, Result, Ok, Err}
+use Rattle.std.specs.Prelude.{ℕ, ◌==◌, ◌||◌, nat_lt, if◌then◌else◌, List, [], ◌∷◌, chars, codes, length, Option, None, Some, Result, Ok, Err}
 use Rattle.std.specs.Option.{option_or}
 use Rattle.std.specs.FinMap.{get}
 use Rattle.lx_trees.specs.Siblings.{names_without}
@@ -71,9 +71,9 @@ key_for (reference.Name name) s = get s.names name
 -- what is said to be unknown where a reference means no node that is there
 abbrev pub said_of : Reference → Named
 said_of (reference.Key k) = named.Key k
-said_of reference.Anchor = named.Name (codes "@anchor")
-said_of reference.Focus = named.Name (codes "@focus")
-said_of reference.Block = named.Name (codes "@block")
+said_of reference.Anchor = named.Name (chars (codes "@anchor"))
+said_of reference.Focus = named.Name (chars (codes "@focus"))
+said_of reference.Block = named.Name (chars (codes "@block"))
 said_of (reference.Name name) = named.Name name
 
 -- a node that is there, or else the refusal with what is said to be unknown

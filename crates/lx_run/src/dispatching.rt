@@ -4,7 +4,7 @@ ghost use Rattle.std.specs.Prelude.{◌≡◌, Ok, OnOk, IfOk, IfErr, All};
 ghost use Rattle.lx_step.specs.Sound.{IsSound, IsSoundListener};
 ghost use Rattle.lx_draft.specs.Faults.{TellsStep};
 ghost use Rattle.lx_run.specs.Running as spec;
-ghost use Rattle.lx_run.specs.Running.{dispatched, steps_in, step_in, offered};
+ghost use Rattle.lx_run.specs.Running.{dispatches, steps_in, step_in, offered};
 
 use crate::running::Running;
 use lx_bus::{Bus, Offers};
@@ -13,6 +13,13 @@ use lx_step::{BuiltIn, Listener, Payload, Step};
 
 /// How many dispatches may run, one in another.
 pub(crate) const MOST_NESTED: u32 = 64;
+
+/// What dispatches commands: to the listeners on a bus, where so many more dispatches may run, one in another.
+#[derive(Clone, Copy)]
+pub(crate) struct Dispatcher<'a> {
+    pub(crate) bus: &'a Bus,
+    pub(crate) left: u32,
+}
 
 /// A payload, where `"@payload"` stands for the one that was sent.
 fn payload_for<'a>(sent: &'a Payload, payload: &'a Payload) -> &'a Payload
@@ -31,36 +38,21 @@ pub(crate) fn is_nothing(sent: &Payload) -> bool
     matches!(sent, Payload::Nothing)
 }
 
-/// Does a built-in command after its count. Those of the history take no payload, and are refused among steps.
-fn do_built_in(running: &mut Running<'_>, command: BuiltIn, sent: &Payload) -> Result<(), Fault>
-    ensures ok { OnOk result (spec.done_by command sent.now running.old ≡ Ok running.new) }
-    ensures err { IfErr result (λ e. TellsStep e (spec.done_by command sent.now running.old)) }
-{
-    match command {
-        BuiltIn::Turn(_) if is_nothing(sent) => Err(Fault::Cause(Cause::HistoryInside)),
-        BuiltIn::Turn(_) => Err(Fault::Cause(Cause::BadCommand)),
-        BuiltIn::Caret(command) => running.do_caret(command, sent),
-        BuiltIn::List(command) => running.do_list(command, sent),
-        BuiltIn::Table(command) => running.do_table(command, sent),
-    }
-}
-
-/// Runs steps one after another. Dispatches in them may nest `left` deep.
+/// Runs steps one after another.
 #[cycle(dispatch)]
 #[tactic(auto, unfolding(crate::specs::Running::steps_in))]
 pub(crate) fn run_all<'a>(
-    bus: &'a Bus,
+    dispatcher: Dispatcher<'a>,
     running: &mut Running<'a>,
     steps: &'a [Step],
     sent: &'a Payload,
-    left: u32,
 ) -> Result<(), Fault>
     requires sound { All IsSound steps.now }
-    ensures ok { OnOk result (steps_in (dispatched left bus.now) sent.now steps.now running.old ≡ Ok running.new) }
-    ensures err { IfErr result (λ e. TellsStep e (steps_in (dispatched left bus.now) sent.now steps.now running.old)) }
+    ensures ok { OnOk result (steps_in (dispatches dispatcher.entry) sent.now steps.now running.old ≡ Ok running.new) }
+    ensures err { IfErr result (λ e. TellsStep e (steps_in (dispatches dispatcher.entry) sent.now steps.now running.old)) }
 {
     for step in steps {
-        run_step(bus, running, step, sent, left)?;
+        run_step(dispatcher, running, step, sent)?;
     }
     Ok(())
 }
@@ -69,15 +61,14 @@ pub(crate) fn run_all<'a>(
 #[cycle(dispatch)]
 #[tactic(auto, unfolding(crate::specs::Running::step_in))]
 pub(crate) fn run_step<'a>(
-    bus: &'a Bus,
+    dispatcher: Dispatcher<'a>,
     running: &mut Running<'a>,
     step: &'a Step,
     sent: &'a Payload,
-    left: u32,
 ) -> Result<(), Fault>
     requires sound { IsSound step.now }
-    ensures ok { OnOk result (step_in (dispatched left bus.now) sent.now step.now running.old ≡ Ok running.new) }
-    ensures err { IfErr result (λ e. TellsStep e (step_in (dispatched left bus.now) sent.now step.now running.old)) }
+    ensures ok { OnOk result (step_in (dispatches dispatcher.entry) sent.now step.now running.old ≡ Ok running.new) }
+    ensures err { IfErr result (λ e. TellsStep e (step_in (dispatches dispatcher.entry) sent.now step.now running.old)) }
 {
     match running.count() {
         Ok(()) => {}
@@ -85,14 +76,12 @@ pub(crate) fn run_step<'a>(
     }
     match step {
         Step::Do(command) => match BuiltIn::named(command.name.as_str()) {
-            Some(built_in) => {
-                do_built_in(running, built_in, payload_for(sent, &command.payload))
-            }
+            Some(built_in) => running.do_command(built_in, payload_for(sent, &command.payload)),
             None => Err(Fault::Cause(Cause::BadCommand)),
         },
         Step::Dispatch(command) => {
             let payload = payload_for(sent, &command.payload);
-            match dispatch(bus, running, &command.name, payload, left) {
+            match dispatch(dispatcher, running, &command.name, payload) {
                 Ok(_) => Ok(()),
                 Err(fault) => Err(fault),
             }
@@ -107,22 +96,26 @@ pub(crate) fn run_step<'a>(
 
 /// Offers a command to the listeners of its name above editor, from the highest priority on. Where none of them has
 /// handled it, the built-in command of the name takes a count and does, or those of priority editor are offered it.
-/// Dispatches may nest `left` deep with this one.
+/// This dispatch is one of those that are left. Where none is, it is refused.
 #[cycle(dispatch)]
 pub(crate) fn dispatch<'a>(
-    bus: &'a Bus,
+    dispatcher: Dispatcher<'a>,
     running: &mut Running<'a>,
     name: &'a Txt,
     payload: &'a Payload,
-    left: u32,
 ) -> Result<bool, Fault>
-    ensures ok { IfOk result (λ handled. dispatched left bus.now name.now payload.now running.old ≡ Ok (running.new, handled)) }
-    ensures err { IfErr result (λ e. TellsStep e (dispatched left bus.now name.now payload.now running.old)) }
+    ensures ok { IfOk result (λ handled. dispatches dispatcher.entry name.now payload.now running.old ≡ Ok (running.new, handled)) }
+    ensures err { IfErr result (λ e. TellsStep e (dispatches dispatcher.entry name.now payload.now running.old)) }
 {
+    let Dispatcher { bus, left } = dispatcher;
     if left == 0 {
         return Err(Fault::Cause(Cause::DispatchDepth));
     }
-    match offer_all(bus, running, bus.above(name.as_str()), payload, left - 1) {
+    let inside = Dispatcher {
+        bus,
+        left: left - 1,
+    };
+    match offer_all(inside, running, bus.above(name.as_str()), payload) {
         Ok(true) => return Ok(true),
         Ok(false) => {}
         Err(fault) => return Err(fault),
@@ -133,12 +126,12 @@ pub(crate) fn dispatch<'a>(
                 Ok(()) => {}
                 Err(cause) => return Err(Fault::Cause(cause)),
             }
-            match do_built_in(running, command, payload) {
+            match running.do_command(command, payload) {
                 Ok(()) => Ok(true),
                 Err(fault) => Err(fault),
             }
         }
-        None => offer_all(bus, running, bus.behind(name.as_str()), payload, left - 1),
+        None => offer_all(inside, running, bus.behind(name.as_str()), payload),
     }
 }
 
@@ -146,18 +139,17 @@ pub(crate) fn dispatch<'a>(
 #[cycle(dispatch)]
 #[tactic(auto, unfolding(crate::specs::Running::offered))]
 pub(crate) fn offer_all<'a>(
-    bus: &'a Bus,
+    dispatcher: Dispatcher<'a>,
     running: &mut Running<'a>,
     offers: Offers<'a>,
     payload: &'a Payload,
-    left: u32,
 ) -> Result<bool, Fault>
     requires sound { All IsSoundListener offers }
-    ensures ok { IfOk result (λ handled. offered (dispatched left bus.now) payload.now offers.entry running.old ≡ Ok (running.new, handled)) }
-    ensures err { IfErr result (λ e. TellsStep e (offered (dispatched left bus.now) payload.now offers.entry running.old)) }
+    ensures ok { IfOk result (λ handled. offered (dispatches dispatcher.entry) payload.now offers.entry running.old ≡ Ok (running.new, handled)) }
+    ensures err { IfErr result (λ e. TellsStep e (offered (dispatches dispatcher.entry) payload.now offers.entry running.old)) }
 {
     for listener in offers {
-        if offer(bus, running, listener, payload, left)? {
+        if offer(dispatcher, running, listener, payload)? {
             return Ok(true);
         }
     }
@@ -168,15 +160,14 @@ pub(crate) fn offer_all<'a>(
 #[cycle(dispatch)]
 #[tactic(auto, unfolding(crate::specs::Running::offer))]
 fn offer<'a>(
-    bus: &'a Bus,
+    dispatcher: Dispatcher<'a>,
     running: &mut Running<'a>,
     listener: &'a Listener,
     payload: &'a Payload,
-    left: u32,
 ) -> Result<bool, Fault>
     requires sound { IsSoundListener listener.now }
-    ensures ok { IfOk result (λ handled. spec.offer (dispatched left bus.now) payload.now listener.now running.old ≡ Ok (running.new, handled)) }
-    ensures err { IfErr result (λ e. TellsStep e (spec.offer (dispatched left bus.now) payload.now listener.now running.old)) }
+    ensures ok { IfOk result (λ handled. spec.offer (dispatches dispatcher.entry) payload.now listener.now running.old ≡ Ok (running.new, handled)) }
+    ensures err { IfErr result (λ e. TellsStep e (spec.offer (dispatches dispatcher.entry) payload.now listener.now running.old)) }
 {
     if let Err(cause) = running.count() {
         return Err(Fault::Cause(cause));
@@ -184,7 +175,7 @@ fn offer<'a>(
     if !running.holds(&listener.when, payload) {
         return Ok(false);
     }
-    match run_all(bus, running, listener.steps.items(), payload, left) {
+    match run_all(dispatcher, running, listener.steps.items(), payload) {
         Ok(()) => Ok(listener.handled),
         Err(fault) => Err(fault),
     }

@@ -2,12 +2,11 @@
 #![tactic(auto)]
 
 mod append;
-mod carets;
+mod commands;
 mod dispatching;
 mod ending;
 mod holding;
 mod lines;
-mod lists;
 mod names;
 mod putting;
 mod queue;
@@ -19,7 +18,6 @@ mod selecting;
 mod setting;
 mod splitting;
 mod stepping;
-mod tables;
 mod turning;
 
 pub use ending::Ending;

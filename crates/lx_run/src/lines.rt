@@ -8,7 +8,7 @@ ghost use Rattle.lx_node.specs.Limits.{most_counts};
 ghost use Rattle.lx_run.specs.Lines.{script_from, queue_run, steps_run, deferred_run, dispatch_begun, dispatch_run, drafted, answer_drafted, ended_with, IsEndingCovered, IsEmptied, IsAnswerEmptied};
 ghost use Rattle.lx_run.specs.Refusals.{at_step, IsRefusal, TellsRefusal};
 
-use crate::dispatching::{MOST_NESTED, run_step};
+use crate::dispatching::{Dispatcher, MOST_NESTED, run_step};
 use crate::ending::{Ended, Ending};
 use crate::queue::run_queue;
 use crate::refusal::Refusal;
@@ -89,9 +89,13 @@ fn run_script<'a>(
     ensures ok { OnOk result (script_from 0 bus.now steps.now running.old ≡ Ok running.new) }
     ensures err { IfErr result (λ e. TellsRefusal e (script_from 0 bus.now steps.now running.old)) }
 {
+    let dispatcher = Dispatcher {
+        bus,
+        left: MOST_NESTED,
+    };
     let mut at = 0;
     for step in steps {
-        match run_step(bus, running, step, nothing, MOST_NESTED) {
+        match run_step(dispatcher, running, step, nothing) {
             Ok(()) => at += 1,
             Err(fault) => return Err(refused(fault, Some(at))),
         }

@@ -77,6 +77,7 @@ fn inside_itself(links: &Links, key: Key, parent: Key) -> Option<Cause>
 }
 
 /// How many children the parent has beside the node.
+#[tactic(auto, using(crate::proofs::Beside::beside_child, crate::proofs::Beside::beside_other))]
 fn places(links: &Links, key: Key, parent: Key) -> u32
     ensures { result ≡ length (names_without key (lookups.children_of links.now parent)) }
 {

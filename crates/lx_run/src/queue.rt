@@ -5,7 +5,7 @@ ghost use Rattle.lx_node.specs.Limits.{most_counts};
 ghost use Rattle.lx_draft.specs.Faults.{TellsStep};
 ghost use Rattle.lx_run.specs.Running.{emptied};
 
-use crate::dispatching::{MOST_NESTED, run_all};
+use crate::dispatching::{Dispatcher, MOST_NESTED, run_all};
 use crate::running::Running;
 use lx_bus::Bus;
 use lx_node::Fault;
@@ -18,11 +18,15 @@ pub(crate) fn run_queue<'a>(bus: &'a Bus, running: &mut Running<'a>) -> Result<(
     ensures ok { OnOk result (emptied most_counts bus.now running.old ≡ Ok running.new) }
     ensures err { IfErr result (λ e. TellsStep e (emptied most_counts bus.now running.old)) }
 {
+    let dispatcher = Dispatcher {
+        bus,
+        left: MOST_NESTED,
+    };
     for _turn in 0..MOST_COUNTS {
         let Some(first) = running.next() else {
             return Ok(());
         };
-        run_all(bus, running, first.steps, first.sent, MOST_NESTED)?;
+        run_all(dispatcher, running, first.steps, first.sent)?;
     }
     Ok(())
 }

@@ -7,22 +7,17 @@ ghost use Rattle.lx_step.specs.Spelled.{steps_of};
 ghost use Rattle.lx_draft.specs.Faults.{TellsStep};
 ghost use Rattle.lx_run.specs.Holding as holding;
 ghost use Rattle.lx_run.specs.Lines.{at_first, is_untouched};
-ghost use Rattle.lx_run.specs.Running.{on_script, take_count, queued, queued_first};
-ghost use Rattle.lx_run.specs.Carets.{caret_step};
-ghost use Rattle.lx_run.specs.Lists.{list_step};
-ghost use Rattle.lx_run.specs.Tables.{table_step};
-ghost use Rattle.lx_run.specs.Scripts.{on_draft, effect_of};
+ghost use Rattle.lx_run.specs.Running.{on_script, take_count, done_by, queued, queued_first};
+ghost use Rattle.lx_run.specs.Scripts.{effect_of};
 
-use crate::carets::do_caret;
+use crate::commands::do_command;
 use crate::holding::holds;
-use crate::lists::do_list;
 use crate::names::Names;
 use crate::script::take_effect;
-use crate::tables::do_table;
 use lx_draft::Draft;
 use lx_node::{Cause, Fault, NoMemory};
 use lx_select::Selection;
-use lx_step::{CaretCommand, ListCommand, Payload, Step, Steps, TableCommand, When};
+use lx_step::{BuiltIn, Payload, Step, Steps, When};
 use std::alloc::Global;
 use std::collections::VecDeque;
 use std::marker::Model;
@@ -128,28 +123,12 @@ impl<'a> Running<'a> {
         take_effect(self.alloc, &mut self.draft, &mut self.names, step)
     }
 
-    /// What a caret command does after its count, with what is sent.
-    pub(crate) fn do_caret(&mut self, command: CaretCommand, sent: &Payload) -> Result<(), Fault>
-        ensures ok { OnOk result (on_script (on_draft (caret_step command sent.now)) self.old ≡ Ok self.new) }
-        ensures err { IfErr result (λ e. TellsStep e (on_script (on_draft (caret_step command sent.now)) self.old)) }
+    /// What a built-in command does after its count, with what is sent.
+    pub(crate) fn do_command(&mut self, command: BuiltIn, sent: &Payload) -> Result<(), Fault>
+        ensures ok { OnOk result (done_by command sent.now self.old ≡ Ok self.new) }
+        ensures err { IfErr result (λ e. TellsStep e (done_by command sent.now self.old)) }
     {
-        do_caret(self.alloc, &mut self.draft, command, sent)
-    }
-
-    /// What a command of lists does after its count, with what is sent.
-    pub(crate) fn do_list(&mut self, command: ListCommand, sent: &Payload) -> Result<(), Fault>
-        ensures ok { OnOk result (on_script (on_draft (list_step command sent.now)) self.old ≡ Ok self.new) }
-        ensures err { IfErr result (λ e. TellsStep e (on_script (on_draft (list_step command sent.now)) self.old)) }
-    {
-        do_list(self.alloc, &mut self.draft, command, sent)
-    }
-
-    /// What a command of tables does after its count, with what is sent.
-    pub(crate) fn do_table(&mut self, command: TableCommand, sent: &Payload) -> Result<(), Fault>
-        ensures ok { OnOk result (on_script (on_draft (table_step command sent.now)) self.old ≡ Ok self.new) }
-        ensures err { IfErr result (λ e. TellsStep e (on_script (on_draft (table_step command sent.now)) self.old)) }
-    {
-        do_table(self.alloc, &mut self.draft, command, sent)
+        do_command(self.alloc, &mut self.draft, command, sent)
     }
 
     /// Queues steps after all that are queued.

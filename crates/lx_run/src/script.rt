@@ -7,7 +7,7 @@ ghost use Rattle.lx_run.specs.Scripts.{scripted, effect_of};
 
 use crate::append::append_paragraph;
 use crate::names::Names;
-use crate::selecting::select_at;
+use crate::selecting::selection_for;
 use crate::stepping::{NodeEdit, PairEdit, edit_node, edit_nodes, new_at, split_at};
 use lx_draft::Draft;
 use lx_node::{Cause, Fault};
@@ -51,7 +51,7 @@ pub(crate) fn take_effect(
         Step::Children { from, into } => {
             edit_nodes(alloc, draft, names, from, into, PairEdit::Children)
         }
-        Step::Select(chosen) => select_at(alloc, draft, names, chosen),
+        Step::Select(chosen) => draft.select(selection_for(alloc, draft, names, chosen)?),
         Step::Do(_) | Step::Dispatch(_) | Step::Later(_) => Err(Fault::Cause(Cause::BadCommand)),
     }
 }

@@ -18,27 +18,9 @@ use lx_select::{Keys, Selection};
 use lx_step::{PointRef, Reference, SelectionRef};
 use std::alloc::Global;
 
-/// Selects what a step names. It is refused where a reference means no node, and as the draft's own selecting
-/// is; an offset above 4,294,967,295 is within no node.
-#[tactic(auto, unfolding(lx_draft::specs::Steps::select_step))]
-pub(crate) fn select_at(
-    alloc: Global,
-    draft: &mut Draft,
-    names: &Names,
-    chosen: &SelectionRef,
-) -> Result<(), Fault>
-    ensures ok { OnOk result (script_select_step chosen.now (scripted draft.old names.now) ≡ Ok (scripted draft.new names.now)) }
-    ensures err { IfErr result (λ e. TellsStep e (script_select_step chosen.now (scripted draft.old names.now))) }
-{
-    match selection_for(alloc, draft, names, chosen) {
-        Ok(selection) => draft.select(selection),
-        Err(fault) => Err(fault),
-    }
-}
-
-/// The selection that is named.
-#[tactic(auto, unfolding(lx_draft::specs::Steps::select_step))]
-fn selection_for(
+/// The selection that a step names. It is refused where a reference means no node, and for points as the draft's own
+/// selecting is; an offset above 4,294,967,295 is within no node.
+pub(crate) fn selection_for(
     alloc: Global,
     draft: &Draft,
     names: &Names,

@@ -62,6 +62,7 @@ fn narrowed_at(alloc: Global, draft: &Draft, key: Key, offsets: &[u64]) -> Resul
 
 /// The offsets, where each is above the one before it and a place within the text, which has this length in UTF-16 code
 /// units. The text is gone through once.
+#[tactic(auto, using(lx_edit::proofs::Offsets::none_there))]
 fn narrowed_within(
     alloc: Global,
     text: &str,

@@ -4,7 +4,7 @@ ghost use Rattle.std.specs.Prelude.{◌≡◌, Some, Ok, IfOk, IfErr};
 ghost use Rattle.lx_draft.specs.Faults.{TellsStep};
 ghost use Rattle.lx_run.specs.Lines.{reached, ended_by, dispatch_begun, ended_with};
 
-use crate::dispatching::{MOST_NESTED, dispatch, is_nothing, offer_all};
+use crate::dispatching::{Dispatcher, MOST_NESTED, dispatch, is_nothing, offer_all};
 use crate::ending::Ended;
 use crate::running::Running;
 use lx_bus::Bus;
@@ -25,9 +25,13 @@ pub(crate) fn begin<'a>(
         Ok(()) => {}
         Err(cause) => return Err(Fault::Cause(cause)),
     }
+    let dispatcher = Dispatcher {
+        bus,
+        left: MOST_NESTED,
+    };
     match BuiltIn::named(command.name.as_str()) {
         Some(BuiltIn::Turn(turn)) => turn_history(bus, running, turn, command),
-        _ => match dispatch(bus, running, &command.name, &command.payload, MOST_NESTED) {
+        _ => match dispatch(dispatcher, running, &command.name, &command.payload) {
             Ok(handled) => Ok(Ended::Ran { handled }),
             Err(fault) => Err(fault),
         },
@@ -48,8 +52,12 @@ fn turn_history<'a>(
     let Ok(committed) = running.copy_selection() else {
         return Err(Fault::Memory);
     };
+    let inside = Dispatcher {
+        bus,
+        left: MOST_NESTED - 1,
+    };
     let offers = bus.above(command.name.as_str());
-    match offer_all(bus, running, offers, &command.payload, MOST_NESTED - 1) {
+    match offer_all(inside, running, offers, &command.payload) {
         Ok(true) => return Ok(Ended::Ran { handled: true }),
         Ok(false) => {}
         Err(fault) => return Err(fault),

@@ -2,8 +2,7 @@ use Rattle.std.proofs.Common.{◌≢◌, [], ap, sym, subst, arith}
 use Rattle.std.specs.Str.{chars}
 use Rattle.lx_edit.specs.Standing.{Does}
 use Rattle.lx_run.specs.Appending.{filled}
-use Rattle.lx_run.proofs.Composed.{filled_with}
-use Rattle.lx_run.proofs.Words.{no_chars, some_chars}
+use Rattle.lx_run.proofs.Composed.{no_chars, some_chars, filled_with}
 use Rattle.lx_run.proofs.append.fill.Goals as goal
 
 pub returns-then-is_empty : goal.returns-then-is_empty

@@ -27,23 +27,23 @@ offer_all-loop-listener-preserved t c = record {
 
 -- the dispatch goes on from what the listeners above editor answer
 goes_on : {t : ℕ} (c : dispatch-After-offer_all t) {r : Result (Running × Bool) Cause}
-    → offered (dispatched (c.args.left - 1) c.args.bus.now) c.args.payload.now c.above.result c.args.running.now ≡ r
-    → dispatched c.args.left c.args.bus.now c.args.name.now c.args.payload.now c.args.running.now
-    ≡ after r (unless_handled (done_else c.args.left c.args.bus.now c.args.name.now c.args.payload.now))
+    → offered (dispatched (c.args.dispatcher.left - 1) c.args.dispatcher.bus.now) c.args.payload.now c.above.result c.args.running.now ≡ r
+    → dispatched c.args.dispatcher.left c.args.dispatcher.bus.now c.args.name.now c.args.payload.now c.args.running.now
+    ≡ after r (unless_handled (done_else c.args.dispatcher.left c.args.dispatcher.bus.now c.args.name.now c.args.payload.now))
 goes_on c answers =
-    dispatched_first _ _ _ _ _ c.if-left-eq0.false (c.above.ensures.order ∙ ap (λ name. above name c.args.bus.now) c.as_str.ensures.text) answers
+    dispatched_first _ _ _ _ _ c.if-left-eq0.false (c.above.ensures.order ∙ ap (λ name. above name c.args.dispatcher.bus.now) c.as_str.ensures.text) answers
 
 -- none of them has handled it
 passed : {t : ℕ} (c : dispatch-After-named t)
-    → IsPassed c.args.left c.args.bus.now c.args.name.now c.args.payload.now c.args.running.now c.offer_all.new.running c.named.result
+    → IsPassed c.args.dispatcher.left c.args.dispatcher.bus.now c.args.name.now c.args.payload.now c.args.running.now c.offer_all.new.running c.named.result
 passed c =
     passed_to _ _ _ _ _ _ (goes_on (goal.at.dispatch-After-named _ c).After-offer_all (flagged c.in-Ok-false.ensures.ok c.in-Ok-false.field-0-test))
     c.named.ensures c.as_str-2.ensures.text
 
 -- nor is there a built-in command of the name, and what those after it answer is the answer
 behind_it : {t : ℕ} (c : dispatch-After-offer_all-in-None t)
-    → offered (dispatched (c.args.left - 1) c.args.bus.now) c.args.payload.now c.behind.result c.offer_all.new.running
-    ≡ dispatched c.args.left c.args.bus.now c.args.name.now c.args.payload.now c.args.running.now
+    → offered (dispatched (c.args.dispatcher.left - 1) c.args.dispatcher.bus.now) c.args.payload.now c.behind.result c.offer_all.new.running
+    ≡ dispatched c.args.dispatcher.left c.args.dispatcher.bus.now c.args.name.now c.args.payload.now c.args.running.now
 behind_it c =
     dispatched_behind (passed (goal.at.dispatch-After-offer_all-in-None _ c).After-named) c.in-None.is c.behind.ensures.order c.as_str-in-None.ensures.text
 
@@ -59,16 +59,16 @@ pub dispatch-returns-in-Err-count-clause-err : goal.dispatch-returns-in-Err-coun
 dispatch-returns-in-Err-count-clause-err t c =
     dispatched_counted (passed (goal.at.dispatch-returns-in-Err-count-clause-err t c).After-named) c.in-Some.is c.in-Err-count.ensures.err
 
-pub dispatch-returns-in-Err-do_built_in-clause-err : goal.dispatch-returns-in-Err-do_built_in-clause-err
-dispatch-returns-in-Err-do_built_in-clause-err t c =
-    let at = goal.at.dispatch-returns-in-Err-do_built_in-clause-err t c in
-    told_of c.in-Err-do_built_in.fault _ _ (λ cause e. dispatched_done (passed at.After-named) c.in-Some.is c.in-Ok.ensures.ok e)
-    c.in-Err-do_built_in.ensures.err
+pub dispatch-returns-in-Err-do_command-clause-err : goal.dispatch-returns-in-Err-do_command-clause-err
+dispatch-returns-in-Err-do_command-clause-err t c =
+    let at = goal.at.dispatch-returns-in-Err-do_command-clause-err t c in
+    told_of c.in-Err-do_command.fault _ _ (λ cause e. dispatched_done (passed at.After-named) c.in-Some.is c.in-Ok.ensures.ok e)
+    c.in-Err-do_command.ensures.err
 
-pub dispatch-returns-in-Ok-do_built_in-clause-ok : goal.dispatch-returns-in-Ok-do_built_in-clause-ok
-dispatch-returns-in-Ok-do_built_in-clause-ok t c =
-    dispatched_done (passed (goal.at.dispatch-returns-in-Ok-do_built_in-clause-ok t c).After-named) c.in-Some.is c.in-Ok.ensures.ok
-    c.in-Ok-do_built_in.ensures.ok
+pub dispatch-returns-in-Ok-do_command-clause-ok : goal.dispatch-returns-in-Ok-do_command-clause-ok
+dispatch-returns-in-Ok-do_command-clause-ok t c =
+    dispatched_done (passed (goal.at.dispatch-returns-in-Ok-do_command-clause-ok t c).After-named) c.in-Some.is c.in-Ok.ensures.ok
+    c.in-Ok-do_command.ensures.ok
 
 pub dispatch-returns-in-None-clause-ok : goal.dispatch-returns-in-None-clause-ok
 dispatch-returns-in-None-clause-ok t c = rw (behind_it c) at c.offer_all-in-None.ensures.ok
