@@ -8,6 +8,7 @@ ghost use Rattle.lx_script.specs.Patches.{patch_of as patch_of_data};
 ghost use Rattle.lx_script.specs.Steps as steps;
 ghost use Rattle.lx_fields.specs.Values as values;
 
+use crate::members::truth_in;
 use crate::new_nodes::{kind_with, new_fields};
 use crate::patches::patch_of;
 use crate::references::{member_reference, selection_of};
@@ -57,22 +58,13 @@ pub(crate) fn put_of(alloc: Global, value: &Value) -> Result<Option<Step>, NoMem
     }
 }
 
-fn keep_in(value: &Value) -> Option<bool>
-    ensures { result ≡ steps.truth_in (get (codes "keep") (view value.now)) }
-{
-    match value.get("keep") {
-        Some(value) => value.as_bool(),
-        None => Some(false),
-    }
-}
-
 pub(crate) fn replace_of(alloc: Global, value: &Value) -> Result<Option<Step>, NoMemory>
     ensures { IfOk result (λ made. made ≡ steps.replace_of (view value.now)) }
 {
     if !has_only(&["replace", "with", "keep"], value) {
         return Ok(None);
     }
-    let keep = keep_in(value);
+    let keep = truth_in("keep", value);
     let node = member_reference(alloc, "replace", value)?;
     let with = member_reference(alloc, "with", value)?;
     match node.zip(with).zip(keep) {
