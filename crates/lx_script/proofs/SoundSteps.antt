@@ -46,21 +46,13 @@ use Rattle.lx_fields.proofs.Sound.{EachRow, rows_tested, kind_tested, mapped, ei
 
 -- ---- what two options hold, and what a result holds
 
-zip_first : {A B : Type 0} (o : Option A) (p : Option B) (both : A × B) → option_zip o p ≡ Some both → o ≡ Some both.0
-zip_first None p both is = absurd (cc)
-zip_first (Some a) None both is = absurd (cc)
-zip_first {A = A} {B = B} (Some a) (Some b) both is =
+zipped : {A B : Type 0} (o : Option A) (p : Option B) (both : A × B) → option_zip o p ≡ Some both → (o ≡ Some both.0) × (p ≡ Some both.1)
+zipped None p both is = absurd (cc)
+zipped (Some a) None both is = absurd (cc)
+zipped {A = A} {B = B} (Some a) (Some b) both is =
     let same : ◌≡◌ {A = A × B} (a, b) both = cc in
-    let P : A × B → Type 0 = λ q. Some a ≡ Some q.0 in
-    subst P same refl
-
-zip_second : {A B : Type 0} (o : Option A) (p : Option B) (both : A × B) → option_zip o p ≡ Some both → p ≡ Some both.1
-zip_second None p both is = absurd (cc)
-zip_second (Some a) None both is = absurd (cc)
-zip_second {A = A} {B = B} (Some a) (Some b) both is =
-    let same : ◌≡◌ {A = A × B} (a, b) both = cc in
-    let P : A × B → Type 0 = λ q. Some b ≡ Some q.1 in
-    subst P same refl
+    let P : A × B → Type 0 = λ q. (Some a ≡ Some q.0) × (Some b ≡ Some q.1) in
+    subst P same (refl, refl)
 
 of_ok : {A E : Type 0} (result : Result A E) (a : A) → result_ok result ≡ Some a → result ≡ Ok a
 of_ok (Ok b) a is = let same : b ≡ a = cc in ap (λ x. Ok x) same
@@ -81,8 +73,8 @@ members_ranged no_members made is = let same : [] ≡ made = cc in subst (All Is
 members_ranged (member text d rest) made is =
     let one = patch_member (word_in names text) text d in
     mapped (All IsInRange) (λ p. p.0 ∷ p.1) (option_zip one (patch_members rest))
-    (λ p at. All-cons IsInRange p.0 p.1 (member_ranged (word_in names text) text d p.0 (zip_first one (patch_members rest) p at))
-    (members_ranged rest p.1 (zip_second one (patch_members rest) p at)))
+    (λ p at. All-cons IsInRange p.0 p.1 (member_ranged (word_in names text) text d p.0 (zipped one (patch_members rest) p at).0)
+    (members_ranged rest p.1 (zipped one (patch_members rest) p at).1))
     made is
 
 patch_ranged : (d : Data) (made : List Member) → patch_of d ≡ Some made → All IsInRange made
@@ -161,7 +153,7 @@ new_step_sound of d name s new is =
 new_with_sound : (of : Kind) (d : Data) (name : Option (Option (List ℕ))) (s : Step) → IsNewKind of → new_with of d name ≡ Some s → IsSound s
 new_with_sound of d name s new is =
     chained IsSound (λ p. new_in p.0 d p.1) (option_zip (kind_with of d) name)
-    (λ p at s made. new_step_sound p.0 d p.1 s (kind_with_new of d p.0 new (zip_first (kind_with of d) name p at)) made) s is
+    (λ p at s made. new_step_sound p.0 d p.1 s (kind_with_new of d p.0 new (zipped (kind_with of d) name p at).0) made) s is
 
 new_of_sound : (d : Data) (s : Step) → new_of d ≡ Some s → IsSound s
 new_of_sound d s is =
@@ -170,7 +162,7 @@ new_of_sound d s is =
     tested IsSound (has_only (codes "new" ∷ codes "fields" ∷ codes "as" ∷ []) d) _
     (chained IsSound (λ p. new_with p.0 p.1 (optional string_of (codes "as") d)) (option_zip type given)
     (λ p at s made. new_with_sound p.0 p.1 (optional string_of (codes "as") d) s
-    (chained IsNewKind kind_named (get (codes "new") d) (λ e there. made_is_new e) p.0 (zip_first type given p at)) made))
+    (chained IsNewKind kind_named (get (codes "new") d) (λ e there. made_is_new e) p.0 (zipped type given p at).0) made))
     s is
 
 set_of_sound : (d : Data) (s : Step) → set_of d ≡ Some s → IsSound s
@@ -179,7 +171,7 @@ set_of_sound d s is =
     let patch = required patch_of (codes "fields") d in
     tested IsSound (has_only (codes "set" ∷ codes "fields" ∷ []) d) _
     (mapped IsSound (λ p. step.Set p.0 (patch_from p.1)) (option_zip node patch)
-    (λ p at. chained (All IsInRange) patch_of (get (codes "fields") d) (λ e there. patch_ranged e) p.1 (zip_second node patch p at)))
+    (λ p at. chained (All IsInRange) patch_of (get (codes "fields") d) (λ e there. patch_ranged e) p.1 (zipped node patch p at).1))
     s is
 
 -- other steps are sound whatever they hold
@@ -255,8 +247,8 @@ mutual
   script_from_sound inside no_items made is = let same : nil ≡ made = cc in subst IsSoundScript same tt
   script_from_sound inside (item d ds) made is =
       mapped IsSoundScript (λ p. with_first p.0 p.1) (option_zip (step_of inside d) (script_from inside ds))
-      (λ p at. script_with p.0 p.1 (step_of_sound inside d p.0 (zip_first (step_of inside d) (script_from inside ds) p at))
-      (script_from_sound inside ds p.1 (zip_second (step_of inside d) (script_from inside ds) p at)))
+      (λ p at. script_with p.0 p.1 (step_of_sound inside d p.0 (zipped (step_of inside d) (script_from inside ds) p at).0)
+      (script_from_sound inside ds p.1 (zipped (step_of inside d) (script_from inside ds) p at).1))
       made is
 
 member_script_sound : (inside : Bool) (name : List ℕ) (d : Data) (made : Script) → required (script_in inside) name d ≡ Some made → IsSoundScript made
@@ -274,7 +266,7 @@ update_of_sound d form is =
     let deferred = truth_in (get (codes "defer") d) in
     tested IsSoundForm (has_only (codes "at" ∷ codes "tags" ∷ codes "update" ∷ codes "defer" ∷ []) d) _
     (mapped IsSoundForm (λ p. update_with p.0 p.1) (option_zip steps deferred)
-    (λ p at. update_with_sound p.0 p.1 (member_script_sound false (codes "update") d p.0 (zip_first steps deferred p at))))
+    (λ p at. update_with_sound p.0 p.1 (member_script_sound false (codes "update") d p.0 (zipped steps deferred p at).0)))
     form is
 
 flush_told_sound : (truth : Bool) (form : Form) → flush_told truth ≡ Some form → IsSoundForm form
@@ -314,10 +306,10 @@ listener_of_sound d l is =
     tested IsSoundListener (has_only (codes "on" ∷ codes "priority" ∷ codes "when" ∷ codes "steps" ∷ codes "handled" ∷ []) d) _
     (mapped IsSoundListener (λ p. listener_with p.0.0.0 p.0.0.1 p.0.1.0 p.0.1.1 p.1) (option_zip (option_zip first second) handled)
     (λ p at.
-    let both = zip_first (option_zip first second) handled p at in
+    let both = (zipped (option_zip first second) handled p at).0 in
     record {
-      priority = priority_within d p.0.0.1 (zip_second on priority p.0.0 (zip_first first second p.0 both));
-      steps = member_script_sound true (codes "steps") d p.0.1.1 (zip_second when steps p.0.1 (zip_second first second p.0 both));
+      priority = priority_within d p.0.0.1 (zipped on priority p.0.0 (zipped first second p.0 both).0).1;
+      steps = member_script_sound true (codes "steps") d p.0.1.1 (zipped when steps p.0.1 (zipped first second p.0 both).1).1;
     }))
     l is
 

@@ -14,6 +14,11 @@ use Rattle.lx_fields.specs.Words.{levels, list_types}
 
 -- ---- the kind
 
+-- a value that isn't null
+abbrev pub unless_null : Option Data → Option Data
+unless_null None = None
+unless_null (Some d) = if is_some (as_null d) then None else Some d
+
 -- what a member says, where it is there and isn't null, or else what is so by default
 abbrev pub or_default : {A : Type 0} → A → (Data → Option A) → Option Data → Option A
 or_default default reads None = Some default

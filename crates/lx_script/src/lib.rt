@@ -13,6 +13,7 @@ mod commands;
 mod conditions;
 mod edits;
 mod listeners;
+mod members;
 mod new_nodes;
 mod ops;
 mod parts;

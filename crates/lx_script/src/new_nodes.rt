@@ -7,6 +7,7 @@ ghost use Rattle.lx_script.specs.NewNodes as new_nodes;
 ghost use Rattle.lx_fields.specs.Values.{named};
 ghost use Rattle.lx_fields.specs.Words.{levels, list_types};
 
+use crate::members::told_in;
 use lx_fields::{FieldFault, Name, fields_of, level_of, list_type_of, name_in};
 use lx_node::{Fields, Kind, ListType, NoMemory};
 use serde_json::{Map, Value};
@@ -16,13 +17,8 @@ use std::alloc::Global;
 fn level_or(default: u8, object: &Value) -> Option<u8>
     ensures { result ≡ new_nodes.or_default default (named levels) (get (codes "tag") (view object.now)) }
 {
-    match object.get("tag") {
-        Some(value) => {
-            if value.is_null() {
-                return Some(default);
-            }
-            level_of(value)
-        }
+    match told_in("tag", object) {
+        Some(value) => level_of(value),
         None => Some(default),
     }
 }
@@ -31,13 +27,8 @@ fn level_or(default: u8, object: &Value) -> Option<u8>
 fn list_type_or(default: ListType, object: &Value) -> Option<ListType>
     ensures { result ≡ new_nodes.or_default default (named list_types) (get (codes "listType") (view object.now)) }
 {
-    match object.get("listType") {
-        Some(value) => {
-            if value.is_null() {
-                return Some(default);
-            }
-            list_type_of(value)
-        }
+    match told_in("listType", object) {
+        Some(value) => list_type_of(value),
         None => Some(default),
     }
 }

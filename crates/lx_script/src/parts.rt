@@ -2,6 +2,7 @@
 
 ghost use Rattle.std.specs.Prelude.{OnOk, ◌∷◌, [], decimal};
 ghost use Rattle.json.specs.Token as token;
+ghost use Rattle.serde_json.specs.Data.{object, no_members, member};
 ghost use Rattle.lx_fields.specs.Parts.{natural, or_null, text_data};
 ghost use Rattle.lx_script.specs.Sent.{Sends, Tells};
 
@@ -18,6 +19,20 @@ pub(crate) fn put_number_member(
 {
     writer.key(name)?;
     writer.u64(number)?;
+    Ok(())
+}
+
+/// An object that has a number, and no other member.
+pub(crate) fn put_number_alone(
+    writer: &mut Writer,
+    name: &str,
+    number: u64,
+) -> Result<(), AllocError>
+    ensures { OnOk result (Tells (object (member name.now (natural number) no_members)) writer.old writer.new) }
+{
+    writer.begin_object()?;
+    put_number_member(writer, name, number)?;
+    writer.end_object()?;
     Ok(())
 }
 

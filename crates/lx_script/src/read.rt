@@ -4,12 +4,12 @@ ghost use Rattle.std.specs.Prelude.{◌≡◌, IfOk, IfErr, codes, option_map};
 ghost use Rattle.serde_json.specs.Find.{get};
 ghost use Rattle.serde_json.specs.View.{view};
 ghost use Rattle.lx_step.specs.Sound.{IsSoundForm};
-ghost use Rattle.lx_script.specs.Steps.{truth_in};
 ghost use Rattle.lx_script.specs.Grammar.{IsJson, TellsLine, TellsNoJson};
 ghost use Rattle.lx_script.specs.Grammar as grammar;
 
 use crate::commands::command_in;
 use crate::listeners::listener_of;
+use crate::members::{alone_in, truth_in};
 use crate::recording::{moment_of, tags_of};
 use crate::rules::rule_of;
 use crate::scripts::member_script;
@@ -56,16 +56,6 @@ pub fn read_value(alloc: Global, bytes: &[u8], room: &mut Room) -> Result<Value,
     }
 }
 
-/// Whether an update waits.
-fn defer_in(value: &Value) -> Option<bool>
-    ensures { result ≡ truth_in (get (codes "defer") (view value.now)) }
-{
-    match value.get("defer") {
-        Some(value) => value.as_bool(),
-        None => Some(false),
-    }
-}
-
 /// An update, which waits where it is deferred.
 fn update_with(steps: Steps, defer: bool) -> Form
     ensures { result ≡ grammar.update_with steps defer }
@@ -88,7 +78,7 @@ fn update_of(alloc: Global, value: &Value) -> Result<Option<Form>, NoMemory>
     if !has_only(&["at", "tags", "update", "defer"], value) {
         return Ok(None);
     }
-    let defer = defer_in(value);
+    let defer = truth_in("defer", value);
     let steps = member_script(alloc, false, "update", value)?;
     match steps.zip(defer) {
         Some((steps, defer)) => Ok(Some(update_with(steps, defer))),
@@ -126,14 +116,8 @@ fn dispatch_form_of(alloc: Global, value: &Value) -> Result<Option<Form>, NoMemo
 fn rule_form_of(alloc: Global, value: &Value) -> Result<Option<Form>, NoMemory>
     ensures { IfOk result (λ made. made ≡ grammar.rule_form_of (view value.now)) }
 {
-    let Some(rule) = value.get("rule") else {
-        return Ok(None);
-    };
-    if !has_only(&["at", "rule"], value) {
-        return Ok(None);
-    }
-    match rule_of(alloc, rule)? {
-        Some(rule) => Ok(Some(Form::Rule(rule))),
+    match alone_in("rule", value) {
+        Some(rule) => Ok(rule_of(alloc, rule)?.map(|rule| Form::Rule(rule))),
         None => Ok(None),
     }
 }
@@ -142,14 +126,11 @@ fn rule_form_of(alloc: Global, value: &Value) -> Result<Option<Form>, NoMemory>
 fn listener_form_of(alloc: Global, value: &Value) -> Result<Option<Form>, NoMemory>
     ensures { IfOk result (λ made. made ≡ grammar.listener_form_of (view value.now)) }
 {
-    let Some(listener) = value.get("listener") else {
-        return Ok(None);
-    };
-    if !has_only(&["at", "listener"], value) {
-        return Ok(None);
-    }
-    match listener_of(alloc, listener)? {
-        Some(listener) => Ok(Some(Form::Listener(listener))),
+    match alone_in("listener", value) {
+        Some(listener) => match listener_of(alloc, listener)? {
+            Some(listener) => Ok(Some(Form::Listener(listener))),
+            None => Ok(None),
+        },
         None => Ok(None),
     }
 }
@@ -158,10 +139,7 @@ fn listener_form_of(alloc: Global, value: &Value) -> Result<Option<Form>, NoMemo
 fn show_of(value: &Value) -> Option<Form>
     ensures { result ≡ grammar.show_of (view value.now) }
 {
-    let shown = value.get("show").and_then(shown_of)?;
-    if !has_only(&["at", "show"], value) {
-        return None;
-    }
+    let shown = alone_in("show", value).and_then(shown_of)?;
     Some(Form::Show(shown))
 }
 

@@ -1,6 +1,7 @@
 //! How lines name nodes, points and selections.
 
 ghost use Rattle.std.specs.Prelude.{◌≡◌, IfOk, codes, option_map, option_and_then};
+ghost use Rattle.std.specs.Option.{option_zip};
 ghost use Rattle.serde_json.specs.View.{view, items_view};
 ghost use Rattle.lx_fields.specs.Values as values;
 ghost use Rattle.lx_script.specs.References as references;
@@ -60,6 +61,20 @@ pub(crate) fn member_reference(
     ensures { IfOk result (λ made. made ≡ values.required references.reference_of name.now (view value.now)) }
 {
     reference_in(alloc, value.get(name))
+}
+
+/// The nodes that two members name.
+pub(crate) fn two_references(
+    alloc: Global,
+    first: &str,
+    second: &str,
+    value: &Value,
+) -> Result<Option<(Reference, Reference)>, NoMemory>
+    ensures { IfOk result (λ made. made ≡ option_zip (values.required references.reference_of first.now (view value.now)) (values.required references.reference_of second.now (view value.now))) }
+{
+    let one = member_reference(alloc, first, value)?;
+    let two = member_reference(alloc, second, value)?;
+    Ok(one.zip(two))
 }
 
 /// Whether it is a list of three items.
@@ -169,10 +184,8 @@ fn cells_of(alloc: Global, value: &Value) -> Result<Option<SelectionRef>, NoMemo
         return Ok(None);
     }
     let table = member_reference(alloc, "table", value)?;
-    let anchor = member_reference(alloc, "anchor", value)?;
-    let focus = member_reference(alloc, "focus", value)?;
-    match table.zip(anchor).zip(focus) {
-        Some(((table, anchor), focus)) => Ok(Some(SelectionRef::Cells {
+    match table.zip(two_references(alloc, "anchor", "focus", value)?) {
+        Some((table, (anchor, focus))) => Ok(Some(SelectionRef::Cells {
             table,
             anchor,
             focus,

@@ -8,9 +8,10 @@ ghost use Rattle.lx_script.specs.Patches.{patch_of as patch_of_data};
 ghost use Rattle.lx_script.specs.Steps as steps;
 ghost use Rattle.lx_fields.specs.Values as values;
 
+use crate::members::truth_in;
 use crate::new_nodes::{kind_with, new_fields};
 use crate::patches::patch_of;
-use crate::references::{member_reference, selection_of};
+use crate::references::{member_reference, selection_of, two_references};
 use crate::words::kind_of;
 use lx_fields::{has_only, member_text, number_of, optional_text};
 use lx_node::{Kind, NoMemory, Txt};
@@ -49,20 +50,10 @@ pub(crate) fn put_of(alloc: Global, value: &Value) -> Result<Option<Step>, NoMem
         return Ok(None);
     }
     let index = index_in(value);
-    let node = member_reference(alloc, "put", value)?;
-    let into = member_reference(alloc, "into", value)?;
-    match node.zip(into).zip(index) {
+    let nodes = two_references(alloc, "put", "into", value)?;
+    match nodes.zip(index) {
         Some(((node, into), index)) => Ok(Some(Step::Put { node, into, index })),
         None => Ok(None),
-    }
-}
-
-fn keep_in(value: &Value) -> Option<bool>
-    ensures { result ≡ steps.truth_in (get (codes "keep") (view value.now)) }
-{
-    match value.get("keep") {
-        Some(value) => value.as_bool(),
-        None => Some(false),
     }
 }
 
@@ -72,10 +63,9 @@ pub(crate) fn replace_of(alloc: Global, value: &Value) -> Result<Option<Step>, N
     if !has_only(&["replace", "with", "keep"], value) {
         return Ok(None);
     }
-    let keep = keep_in(value);
-    let node = member_reference(alloc, "replace", value)?;
-    let with = member_reference(alloc, "with", value)?;
-    match node.zip(with).zip(keep) {
+    let keep = truth_in("keep", value);
+    let nodes = two_references(alloc, "replace", "with", value)?;
+    match nodes.zip(keep) {
         Some(((node, with), keep)) => Ok(Some(Step::Replace { node, with, keep })),
         None => Ok(None),
     }
@@ -187,9 +177,7 @@ pub(crate) fn two_of(
     if !has_only(&[first, second], value) {
         return Ok(None);
     }
-    let one = member_reference(alloc, first, value)?;
-    let two = member_reference(alloc, second, value)?;
-    Ok(one.zip(two))
+    two_references(alloc, first, second, value)
 }
 
 /// The object of a new node's fields, or what stands for none.

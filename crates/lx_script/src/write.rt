@@ -4,13 +4,15 @@ ghost use Rattle.std.specs.Prelude.{◌≡◌, false, IfOk, OnOk, Some, option_m
 ghost use Rattle.serde_json.specs.Data.{Data};
 ghost use Rattle.serde_json.specs.View.{view};
 ghost use Rattle.serde_json.specs.Written.{has_float};
-ghost use Rattle.lx_script.specs.Replies.{reply_data, reply_text, commit_data, refusal_data, idle_data, gathered_data, registered_data, cleared_data, history_data, state_data, state_text, slice_text, shown_slice_data, view_data, shown_selection_data};
+ghost use Rattle.lx_script.specs.Replies.{reply_data, reply_text, commit_data, refusal_data, idle_data, cleared_data, history_data, state_data, state_text, slice_text, shown_slice_data, view_data, shown_selection_data};
 ghost use Rattle.lx_script.specs.Sent.{Sends, Tells, handled_tokens, view_tokens};
 ghost use Rattle.lx_script.specs.declared.reply.Reply.TheVariants.{Committed};
 
 use crate::causes::{cause_name, put_detail};
 use crate::ops::put_ops;
-use crate::parts::{put_flag_member, put_number_member, put_number_or_null, put_word_member};
+use crate::parts::{
+    put_flag_member, put_number_alone, put_number_member, put_number_or_null, put_word_member,
+};
 use crate::reply::Reply;
 use crate::selection::put_selection;
 use json::Writer;
@@ -93,8 +95,8 @@ fn put_reply(alloc: Global, writer: &mut Writer, reply: &Reply) -> Result<(), Al
         } => put_commit(alloc, writer, *number, ops.items(), *handled, view),
         Reply::Refused { cause, step } => put_refusal(writer, cause, *step),
         Reply::Idle { handled } => put_idle(writer, *handled),
-        Reply::Gathered(count) => put_gathered(writer, *count),
-        Reply::Registered(number) => put_registered(writer, *number),
+        Reply::Gathered(count) => put_number_alone(writer, "gathered", *count as u64),
+        Reply::Registered(number) => put_number_alone(writer, "registered", *number as u64),
         Reply::Cleared => put_cleared(writer),
         Reply::View(html) => put_view(writer, html),
         Reply::Selection(selection) => put_shown_selection(writer, selection),
@@ -165,24 +167,6 @@ fn put_idle(writer: &mut Writer, handled: Option<bool>) -> Result<(), AllocError
     writer.begin_object()?;
     put_handled(writer, handled)?;
     put_flag_member(writer, "idle", true)?;
-    writer.end_object()?;
-    Ok(())
-}
-
-fn put_gathered(writer: &mut Writer, count: u32) -> Result<(), AllocError>
-    ensures { OnOk result (Tells (gathered_data count) writer.old writer.new) }
-{
-    writer.begin_object()?;
-    put_number_member(writer, "gathered", count as u64)?;
-    writer.end_object()?;
-    Ok(())
-}
-
-fn put_registered(writer: &mut Writer, number: u32) -> Result<(), AllocError>
-    ensures { OnOk result (Tells (registered_data number) writer.old writer.new) }
-{
-    writer.begin_object()?;
-    put_number_member(writer, "registered", number as u64)?;
     writer.end_object()?;
     Ok(())
 }

@@ -1,5 +1,5 @@
 use Rattle.std.proofs.Common.{◌∙◌, refl, append_assoc}
-use Rattle.lx_script.proofs.write.put_gathered.Goals as goal
+use Rattle.lx_script.proofs.parts.put_number_alone.Goals as goal
 
 pub returns : goal.returns
 returns c = (
