@@ -1,5 +1,5 @@
 -- The keys of a type that a walk through the tree gathers.
-use Rattle.std.proofs.Common.{◌≡◌, ◌∙◌, ℕ, ◌++◌, Bool, true, false, if◌then◌else◌, List, [], ◌∷◌, Option, None, Some, IfSome, IfNone, filter, refl, sym, ap, append_assoc}
+use Rattle.std.proofs.Common.{◌≡◌, ◌∙◌, ℕ, ◌++◌, Bool, true, false, if◌then◌else◌, List, [], ◌∷◌, Option, Some, IfSome, IfNone, filter, refl, sym, ap, append_assoc}
 use Rattle.lx_step.specs.declared.rule.TypeRow.{TypeRow}
 use Rattle.lx_forest.specs.Forest.{Forest}
 use Rattle.lx_forest.specs.Lookups.{depth, from, kind_of, IsForest}

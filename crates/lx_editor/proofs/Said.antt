@@ -1,7 +1,7 @@
 -- What is said of an outcome is what comes of it.
 use Rattle.std.proofs.Common.{◌≡◌, ◌∙◌, ℕ, ◌+◌, Bool, List, Option, None, Some, option_map, Result, sym, ap, subst}
 use Rattle.std.specs.Global.{Box}
-use Rattle.std.specs.Result.{IfOk, OnOk}
+use Rattle.std.specs.Result.{IfOk}
 use Rattle.lx_host.specs.declared.op.Op.{Op}
 use Rattle.lx_marks.specs.Marks.{Marked}
 use Rattle.lx_step.specs.declared.built_in.Turn.{Turn}
@@ -23,9 +23,9 @@ use Rattle.lx_editor.specs.Judged.{covering, IsCoveredBy}
 use Rattle.lx_editor.specs.Saying.{HasCommitted, IsSaid}
 use Rattle.lx_editor.specs.Turned.{IsTurned}
 use Rattle.lx_editor.specs.Updated.{left_of, IsCommitted}
-use Rattle.lx_editor.proofs.Changed.{noted_told, told_from}
+use Rattle.lx_editor.proofs.Changed.{none_told, noted_told, told_from, uncommitted_cleared, uncommitted_listener, uncommitted_same}
 use Rattle.lx_editor.proofs.Kept.{state_or}
-use Rattle.lx_editor.proofs.Told.{told, told_of}
+use Rattle.lx_editor.proofs.Told.{told}
 
 -- ---- a commit, as it is said
 
@@ -77,14 +77,19 @@ said_change asked old mid state ops marks change new same has noted =
 pub outcome_said : {E : Type 0} (r : Result Outcome E) (P : Outcome → Type 0) → IfOk r (λ said. (outcome : Outcome) × P outcome × (said ≡ outcome)) → IfOk r P
 outcome_said r P said = told r _ P said (λ o (outcome, p, is). subst P (sym is) p)
 
+-- what a request says is the reply that gives its outcome, and the change is there
 pub reply_said : {X E : Type 0} (r : Result X E) (bytes : X → List ℕ) (telling : Telling) (old : Editor) (change : Option Change) (new : Editor)
-    (P : Outcome → Type 0)
-    → IfOk r (λ said. (outcome : Outcome) × P outcome × IsSaid telling None old outcome new (bytes said) change)
-    → IfOk r (λ said. (outcome : Outcome) × P outcome × (bytes said ≡ reply_text (reply_of None (view_told new) outcome)))
-reply_said r bytes telling old change new P said = told r _ _ said (λ x (outcome, p, is). (outcome, p, is.0))
-
-pub change_said : {X E : Type 0} (r : Result X E) (bytes : X → List ℕ) (telling : Telling) (old : Editor) (change : Option Change) (new : Editor)
     (P : Outcome → Type 0) → telling.change ≡ None
     → IfOk r (λ said. (outcome : Outcome) × P outcome × IsSaid telling None old outcome new (bytes said) change)
-    → OnOk r (IsToldChange telling.asked old change new)
-change_said r bytes telling old change new P none said = told_of r _ _ said (λ x (outcome, p, is). is.1 none)
+    → IfOk r (λ said. ((outcome : Outcome) × P outcome × (bytes said ≡ reply_text (reply_of None (view_told new) outcome)))
+    × IsToldChange telling.asked old change new)
+reply_said r bytes telling old change new P none said = told r _ _ said (λ x (outcome, p, is). ((outcome, p, is.0), is.1 none))
+
+-- where nothing is committed there is no change to be said
+pub still_said : {X E : Type 0} (r : Result X E) (bytes : X → List ℕ) (text : List ℕ) (telling : Telling) → IfOk r (λ said. bytes said ≡ text)
+    → IfOk r (λ said. (old new : Editor) → IsUncommitted old new
+    → (bytes said ≡ text) × (telling.change ≡ None → IsToldChange telling.asked old telling.change new))
+still_said r bytes text telling said = told r _ _ said (λ x is. λ old new same. (is, λ none. none_told telling.asked old telling.change new none same))
+
+-- what the reply to a line of any form follows from
+pub ruleset replying = (reply_said, none_told, uncommitted_same, uncommitted_listener, uncommitted_cleared)

@@ -23,10 +23,11 @@ use Rattle.lx_reconcile.specs.Told.{Told}
 use Rattle.lx_editor.specs.Editor.{Editor}
 use Rattle.lx_editor.specs.Standing.{HasKinds, IsEntry, IsValid}
 use Rattle.lx_editor.specs.Turned.{is_in_either, IsTurned}
-use Rattle.lx_editor.specs.Updated.{most_reads, state_with}
+use Rattle.lx_editor.specs.Updated.{most_reads, with_commit}
 use Rattle.lx_editor.specs.Judged.{all_marked, MayTurn}
+use Rattle.lx_editor.proofs.Changed.{state_is}
 use Rattle.lx_editor.proofs.Kept.{turned_each, entry_each}
-use Rattle.lx_editor.proofs.Updated.{same_end}
+use Rattle.lx_editor.proofs.Updated.{same_end, valid_commit}
 
 -- ---- marks of nodes of the two trees
 
@@ -98,15 +99,11 @@ pub entry_kept : (e : Editor) (valid : IsValid e) (turn : Turn) (state : State) 
     → IsEntry e.next_key state × HasKinds valid.kept.kinds state.links
 entry_kept e valid turn state next = entry_each (λ s. IsEntry e.next_key s × HasKinds valid.kept.kinds s.links) turn e.history state valid.kept.entries next
 
--- a copy of a state is that state
-state_same : (a b : State) → a.links ≡ b.links → a.selection ≡ b.selection → a ≡ b
-state_same a b links selection = ap (λ l. state_with l a.selection) links ∙ ap (λ s. state_with b.links s) selection
-
--- so a copy of the entry that the history gives is its next one
+-- a copy of the entry that the history gives is its next one
 pub next_copied : (turn : Turn) (h : History) (told : Option State) (entry state : State) → told ≡ entry_of turn h → told ≡ Some entry
     → state.links ≡ entry.links → state.selection ≡ entry.selection
     → entry_of turn h ≡ Some state
-next_copied turn h told entry state tells is links selection = sym tells ∙ is ∙ ap (λ s. Some s) (sym (state_same state entry links selection))
+next_copied turn h told entry state tells is links selection = sym tells ∙ is ∙ ap (λ s. Some s) (sym (state_is state entry links selection))
 
 -- where there is an entry the history turns
 never_still : (turn : Turn) (moment : ℕ) (h : History) (state : State) → entry_of turn h ≡ Some state → turned turn moment h ≡ None → ⊥
@@ -129,59 +126,39 @@ has_turned false turn moment h mid g state next same (none, still) =
 module _ (e : Editor) (turn : Turn) (moment : ℕ) (state : State) (batch : Told) (may : MayTurn e turn state batch) (valid : IsValid e) (view : HostTree)
     (leads : Leads e.view batch.ops view)
     (history : History) (turns : turned turn moment e.history ≡ Some history) where
-  kept : IsEntry e.next_key state × HasKinds valid.kept.kinds state.links
-  kept = entry_kept e valid turn state may.next
-
   reached : AreAllowed e.tree state.links (is_in_either e.tree state.links) e.view batch.ops view
   reached =
       subst (λ w. AreAllowed e.tree state.links (is_in_either e.tree state.links) e.view batch.ops w)
       (same_end e.view may.allowed.0 view batch.ops may.allowed.1.leads leads) may.allowed.1
 
   abbrev pub made : Editor
-  made = record {
-    tree = state.links;
-    selection = state.selection;
-    next_key = e.next_key;
-    pending = None;
-    commits = e.commits + 1;
-    view = view;
-    last = Some batch;
-    history = history;
-    moment = e.moment;
-    rules = e.rules;
-    listeners = e.listeners;
-    tells_view = e.tells_view;
-  }
+  made = with_commit state view batch history e
 
-  pub still_valid : IsValid made
-  still_valid = record {
-    state = kept.0;
-    shown = reached.shows;
-    none = λ zero. absurd (omega (arith, zero));
-    some = λ none. absurd (cc);
-    kept = record {
-      kinds = valid.kept.kinds;
-      now = kept.1;
-      entries = turned_each (λ s. IsEntry e.next_key s × HasKinds valid.kept.kinds s.links) turn moment e.history history valid.kept.entries turns;
-    };
-    pending = tt;
-  }
+  still_valid : IsValid made
+  still_valid =
+      let kept = entry_kept e valid turn state may.next in
+      valid_commit e state view batch history valid.kept.kinds kept.0 reached.shows kept.1
+      (turned_each (λ s. IsEntry e.next_key s × HasKinds valid.kept.kinds s.links) turn moment e.history history valid.kept.entries turns)
 
-  pub is_turned : IsTurned turn moment e (e.commits + 1) batch.ops made
-  is_turned = record {
-    entry = state;
-    next = may.next;
-    turns = turns;
-    current = comes_to turn moment e.history history state may.next turns;
-    ids = may.ids;
-    allowed = reached;
-    reads = batch.reads;
-    few = may.few;
-    joined = may.stands.joined;
-    numbered = may.stands.numbered;
-    number = refl;
-    made = refl;
-  }
+  -- where the history may turn, and does, it leaves a valid editor
+  pub is_turned : IsValid made × IsTurned turn moment e (e.commits + 1) batch.ops made
+  is_turned = (
+    still_valid,
+    record {
+      entry = state;
+      next = may.next;
+      turns = turns;
+      current = comes_to turn moment e.history history state may.next turns;
+      ids = may.ids;
+      allowed = reached;
+      reads = batch.reads;
+      few = may.few;
+      joined = may.stands.joined;
+      numbered = may.stands.numbered;
+      number = refl;
+      made = refl;
+    },
+  )
 
 -- ---- where trees may differ
 

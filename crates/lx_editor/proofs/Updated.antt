@@ -1,16 +1,18 @@
 -- What an update has made of an editor, from what its steps left of the draft.
-use Rattle.std.proofs.Common.{◌≡◌, ◌∙◌, ◌+◌, ◌<◌, ◌≤◌, ℕ, Bool, true, false, List, [], ◌∷◌, Option, None, Some, Result, Ok, refl, sym, ap, subst, arith}
+use Rattle.std.proofs.Common.{◌≡◌, ◌∙◌, ◌+◌, ◌<◌, ℕ, Bool, true, false, List, [], ◌∷◌, Option, None, Result, Ok, refl, sym, ap, subst, arith}
 use Rattle.std.proofs.lemmas.Bool.Decides.{eqb_tells}
 use Rattle.lx_trees.specs.Trees.{nil, tree}
 use Rattle.lx_node.specs.Kinds.{is_text_block, is_list}
+use Rattle.lx_node.specs.Limits.{most_counts}
 use Rattle.lx_node.specs.declared.cause.Cause.{Cause}
 use Rattle.lx_node.specs.Strings.{capped, characters_of, characters_of_element, characters_of_extra}
+use Rattle.lx_node.specs.declared.kind.Kind.{Kind}
 use Rattle.lx_node.specs.declared.kind.Kind.TheVariants.{Root}
 use Rattle.std.proofs.lemmas.List.Elements.{All-nil}
 use Rattle.lx_host.specs.declared.op.Op.{Op}
 use Rattle.lx_host.specs.Hosts.{HostTree, shape_of, new_tree, Leads, FitInTurn}
 use Rattle.lx_host.specs.Html.{html_of, first_tree}
-use Rattle.lx_marks.specs.Marks.{Marked, unmarked, is_touched, is_noted}
+use Rattle.lx_marks.specs.Marks.{Marked, unmarked, is_touched}
 use Rattle.lx_select.specs.declared.selection.Selection.{Selection}
 use Rattle.lx_select.specs.declared.selection.Selection.TheVariants.{Nothing}
 use Rattle.lx_step.specs.declared.rule.TypeRow.{TypeRow}
@@ -32,12 +34,14 @@ use Rattle.lx_render.specs.Render.{render}
 use Rattle.lx_forest.specs.Covered.{AreCovered}
 use Rattle.lx_reconcile.specs.Allowed.{Shows, AreAllowed}
 use Rattle.lx_reconcile.specs.Allowing.{marking, IsAllowed}
+use Rattle.lx_reconcile.specs.Told.{Told}
 use Rattle.lx_reconcile.proofs.Covered.{covered}
 use Rattle.lx_edit.specs.Texts.{simple_at}
 use Rattle.lx_reconcile.proofs.StartEnd.{one_tree}
 use Rattle.lx_reconcile.proofs.Frozen.{frozen_parts, one_left, swept_alone, kind_stays}
-use Rattle.lx_run.specs.Lines.{drafted, steps_run}
-use Rattle.lx_run.specs.Refusals.{and_then, TellsRefusal}
+use Rattle.lx_run.specs.Lines.{at_first, drafted, script_from, steps_run}
+use Rattle.lx_run.specs.Refusals.{and_then, at_none, TellsRefusal}
+use Rattle.lx_run.proofs.Emptied.{emptied_done}
 use Rattle.lx_run.specs.declared.refusal.Refusal.{Refusal}
 use Rattle.lx_run.specs.declared.refusal.Refusal.TheVariants as refusal
 use Rattle.lx_draft.specs.declared.state.State.{State}
@@ -56,15 +60,16 @@ use Rattle.lx_list.proofs.Covered.{covered-lists}
 use Rattle.lx_list.proofs.Swept.{numbered_swept}
 use Rattle.lx_settle.proofs.Rest.{there as attached_there}
 use Rattle.lx_editor.specs.Editor.{Editor}
-use Rattle.lx_editor.specs.Gathering.{started_of}
+use Rattle.lx_editor.specs.Gathering.{begun, recording_all, started_of, with_nothing_pending}
 use Rattle.lx_editor.specs.Standing.{IsState, HasKinds, IsEntry, EachEntry, IsValid}
-use Rattle.lx_editor.specs.Updated.{at_commit, answers_of, numbered_by, rested_by, IsAtRest, Settled, left_by, Left, state_with, recorded, IsNothingNew, hosts_fault, most_reads, IsCommitted}
+use Rattle.lx_editor.specs.Updated.{at_commit, answers_of, numbered_by, rested_by, IsAtRest, Settled, left_by, Left, state_with, recorded, with_commit, IsCommitted, IsMadeOf, IsUpdated, IsFlushed}
+use Rattle.lx_editor.specs.declared.outcome.Outcome.{Outcome}
 use Rattle.lx_editor.specs.declared.recording.Recording.{Recording}
 use Rattle.lx_editor.specs.Registered.{marked_for, left_with, left_for}
 use Rattle.serde_json.specs.Data.{Data}
 use Rattle.lx_json.specs.Importing.{imported}
 use Rattle.lx_editor.specs.Loaded.{left_by_load}
-use Rattle.lx_editor.specs.Judged.{MayGiveWay, IsLeft, LeavesAtRest, IsSettledOf, HasGrown, IsFresh, IsLeftOfImport}
+use Rattle.lx_editor.specs.Judged.{MayCommit, MayGiveWay, IsLeft, LeavesAtRest, IsSettledOf, HasGrown, IsFresh, IsLeftOfImport}
 use Rattle.lx_editor.proofs.Kept.{kinds, new_kinds, entries_kept}
 use Rattle.lx_editor.proofs.Limits.{first_none, second_none}
 use Rattle.lx_editor.proofs.Renumbered.{marked_on, rested_on, joined_on}
@@ -78,6 +83,17 @@ pub are_left : (rules : List AnyRule) (listeners : List Listener) (steps : List 
     → left_by rules listeners steps w ≡ rested_by rules draft
 unfolding left_by
 are_left rules listeners steps w draft ran = ap (λ r. and_then r (rested_by rules)) ran
+
+-- no steps leave what the draft does
+no_steps : (rules : List AnyRule) (listeners : List Listener) (w : Working) → left_by rules listeners [] w ≡ rested_by rules w
+unfolding left_by steps_run script_from
+no_steps rules listeners w = ap (λ r. and_then (drafted (at_none r)) (rested_by rules)) (emptied_done most_counts listeners (at_first w) refl)
+
+-- so an update without steps is a flush
+pub is_flushed : (old : Editor) (how : Recording) (outcome : Outcome) (new : Editor) → IsUpdated old [] how outcome new → IsFlushed old how outcome new
+unfolding IsUpdated IsFlushed
+is_flushed old how outcome new updated =
+    subst (λ r. IsMadeOf r (with_nothing_pending old) (recording_all old how) outcome new) (no_steps old.rules old.listeners (begun old)) updated
 
 -- where they are refused nothing is left
 pub steps_refused : (rules : List AnyRule) (listeners : List Listener) (steps : List Step) (w : Working) (e : Refusal)
@@ -296,57 +312,57 @@ recorded_same before after entry marks how h mid g links selection same is =
     ∙ ap (λ s. noted before (state_with after.links s) marks how.tags how.moment mid) selection
     ∙ ap (λ k. noted before after marks how.tags how.moment k) same
 
-module _ (e : Editor) (how : Recording) (left : Left) (view : HostTree) (history : History) (is_recorded : history ≡ recorded e how left) (ops : List Op)
-    (allowed : IsAllowed e.tree left.tree (marking left.marks) e.view ops) (leads : Leads e.view ops view) where
+-- An editor that has committed a state which may be committed, and which its view shows, is valid, where its history is kept.
+pub valid_commit : (e : Editor) (state : State) (view : HostTree) (told : Told) (history : History) (kinds : ℕ → Kind)
+    → IsState state.links state.selection e.next_key
+    → Shows view state.links → HasKinds kinds state.links
+    → EachEntry (λ s. IsEntry e.next_key s × HasKinds kinds s.links) history
+    → IsValid (with_commit state view told history e)
+valid_commit e state view told history kinds stands shows now entries = record {
+  state = stands;
+  shown = shows;
+  none = λ zero. absurd (omega (arith, zero));
+  some = λ none. absurd (cc);
+  kept = record { kinds = kinds; now = now; entries = entries };
+  pending = tt;
+}
+
+module _ (e : Editor) (how : Recording) (left : Left) (batch : Told) (may : MayCommit e left batch) (valid : IsValid e) (view : HostTree)
+    (leads : Leads e.view batch.ops view)
+    (history : History) (is_recorded : history ≡ recorded e how left) where
   -- what is between the trees and the view that it has come to
-  reached : AreAllowed e.tree left.tree (is_touched left.marks) e.view ops view
-  reached = subst (λ w. AreAllowed e.tree left.tree (is_touched left.marks) e.view ops w) (same_end e.view allowed.0 view ops allowed.1.leads leads) allowed.1
+  reached : AreAllowed e.tree left.tree (is_touched left.marks) e.view batch.ops view
+  reached =
+      subst (λ w. AreAllowed e.tree left.tree (is_touched left.marks) e.view batch.ops w)
+      (same_end e.view may.allowed.0 view batch.ops may.allowed.1.leads leads) may.allowed.1
 
-  abbrev pub made : ℕ → Editor
-  made reads = record {
-    tree = left.tree;
-    selection = left.selection;
-    next_key = left.next_key;
-    pending = None;
-    commits = e.commits + 1;
-    view = view;
-    last = Some (record { ops = ops; reads = reads });
-    history = history;
-    moment = e.moment;
-    rules = left.rules;
-    listeners = e.listeners;
-    tells_view = e.tells_view;
-  }
+  abbrev pub made : Editor
+  made = with_commit (state_with left.tree left.selection) view batch history (record e { next_key = left.next_key; rules = left.rules })
 
-  pub still_valid : (reads : ℕ) → IsValid e → IsState left.tree left.selection left.next_key → HasGrown e.tree e.next_key left → IsValid (made reads)
-  still_valid reads valid state grown = record {
-    state = state;
-    shown = reached.shows;
-    none = λ zero. absurd (omega (arith, zero));
-    some = λ none. absurd (cc);
-    kept = record {
-      kinds = kinds e left valid.state valid.kept state grown;
-      now = new_kinds e left valid.state valid.kept state grown;
-      entries =
-          subst (EachEntry (λ s. IsEntry left.next_key s × HasKinds (kinds e left valid.state valid.kept state grown) s.links)) (sym is_recorded)
-          (entries_kept e left valid.state valid.kept state grown how);
-    };
-    pending = tt;
-  }
+  still_valid : IsValid made
+  still_valid =
+      let table = kinds e left valid.state valid.kept may.stands.state may.grown in
+      let entries = entries_kept e left valid.state valid.kept may.stands.state may.grown how in
+      valid_commit (record e { next_key = left.next_key; rules = left.rules }) (state_with left.tree left.selection) view batch history table
+      may.stands.state reached.shows (new_kinds e left valid.state valid.kept may.stands.state may.grown)
+      (subst (EachEntry (λ s. IsEntry left.next_key s × HasKinds table s.links)) (sym is_recorded) entries)
 
-  pub committed : (reads : ℕ) → IsJoined left.tree → IsNumbered left.tree → (IsNothingNew e left → ⊥) → hosts_fault e.tree left.tree e.view ≡ None
-      → reads ≤ most_reads e.tree left.tree (is_noted left.marks) → IsCommitted e how left (e.commits + 1) ops (made reads)
-  committed reads joined numbered anew ids few = record {
-    anew = anew;
-    ids = ids;
-    joined = joined;
-    numbered = numbered;
-    allowed = reached;
-    reads = reads;
-    few = few;
-    number = refl;
-    made = ap (λ h. record (made reads) { history = h }) is_recorded;
-  }
+  -- what may be committed, and is, leaves a valid editor
+  pub committed : IsValid made × IsCommitted e how left (e.commits + 1) batch.ops made
+  committed = (
+    still_valid,
+    record {
+      anew = may.anew;
+      ids = may.ids;
+      joined = may.stands.state.joined;
+      numbered = may.stands.state.numbered;
+      allowed = reached;
+      reads = batch.reads;
+      few = may.few;
+      number = refl;
+      made = ap (λ h. record made { history = h }) is_recorded;
+    },
+  )
 
 -- ---- the view
 
@@ -355,15 +371,14 @@ first_whole nil only = absurd (cc)
 first_whole (tree l below nil) only = refl
 first_whole (tree l below (tree m under rest)) only = absurd (cc)
 
--- what is printed of the view is the rendering of the tree
-pub printed : (e : Editor) → IsValid e → html_of (first_tree (shape_of e.view.hosts)) ≡ html_of (render e.tree)
-printed e valid = ap (λ s. html_of (first_tree s)) valid.shown ∙ ap html_of (first_whole e.tree valid.state.alone)
+-- what is printed of a view is the rendering of the tree that it shows
+pub printed : (f : Forest) (view : HostTree) → roots f ≡ 0 ∷ [] → Shows view f → html_of (first_tree (shape_of view.hosts)) ≡ html_of (render f)
+printed f view only shows = ap (λ s. html_of (first_tree s)) shows ∙ ap html_of (first_whole f only)
 
--- so is what is printed of any view that shows one tree
+-- so it is where the view shows the root's tree
 pub told_view : (f : Forest) (view : HostTree) → IsForest f → roots f ≡ 0 ∷ [] → Shows view (alone 0 f)
     → html_of (first_tree (shape_of view.hosts)) ≡ html_of (render f)
-told_view f view order only shows =
-    ap (λ s. html_of (first_tree s)) (shows ∙ ap render (one_tree f order only)) ∙ ap html_of (first_whole f only)
+told_view f view order only shows = printed f view only (shows ∙ ap render (one_tree f order only))
 
 -- ---- a load
 

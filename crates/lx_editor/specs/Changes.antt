@@ -1,5 +1,5 @@
 -- What a line changed, as `line_with_change` answers it.
-use Rattle.std.specs.Prelude.{◌≡◌, ◌+◌, ℕ, Bool, true, false, List, Option, None, Some, option_map}
+use Rattle.std.specs.Prelude.{◌≡◌, ◌+◌, Bool, true, false, List, Option, None, Some, option_map}
 use Rattle.lx_host.specs.declared.op.Op.{Op}
 use Rattle.lx_host.specs.Hosts.{Leads}
 use Rattle.lx_marks.specs.Marks.{Marked}

@@ -1,6 +1,5 @@
 -- How an editor may answer lines, and how the bytes of replies follow from them.
 use Rattle.std.specs.Prelude.{◌≡◌, ℕ, List, [], ◌∷◌, ◌++◌, length, if◌then◌else◌, Bool, Option, None, Some, option_map, Result, Ok, Err}
-use Rattle.serde_json.specs.Data.{Data}
 use Rattle.serde_json.specs.View.{view}
 use Rattle.lx_node.specs.declared.cause.Cause.{Cause}
 use Rattle.lx_host.specs.Html.{html_of}
@@ -14,9 +13,7 @@ use Rattle.lx_step.specs.declared.line.Shown.{Shown}
 use Rattle.lx_step.specs.declared.line.Shown.TheVariants.{State, View, Selection, History, Slice}
 use Rattle.lx_step.specs.declared.line.Tags.{Tags}
 use Rattle.lx_step.specs.declared.listener.Listener.{Listener as ListenerOf}
-use Rattle.lx_step.specs.declared.rule.Rule.{Rule as RuleOf}
 use Rattle.lx_step.specs.Spelled.{steps_of}
-use Rattle.lx_step.specs.declared.step.Step.{Step}
 use Rattle.lx_script.specs.declared.reply.Reply.{Reply}
 use Rattle.lx_script.specs.declared.reply.Reply.TheVariants as reply
 use Rattle.lx_script.specs.Grammar.{Reads}
@@ -64,30 +61,9 @@ shown_text Selection editor = reply_text (reply.Selection editor.selection)
 shown_text History editor = reply_text (reply.History (length editor.history.redo) (length editor.history.undo))
 shown_text Slice editor = slice_text (option_map slice_data (sliced editor.tree editor.selection))
 
--- The editor may answer an update by these steps with these bytes, and be the new one after.
-abbrev pub IsReplyOfUpdate : Editor → List Step → Recording → List ℕ → Editor → Type 0
-IsReplyOfUpdate old steps how bytes new =
-    (outcome : Outcome) × IsUpdated old steps how outcome new × (bytes ≡ reply_text (reply_of None (view_told new) outcome))
-
--- The editor may answer an update by these steps that waits with these bytes, and be the new one after.
-abbrev pub IsReplyOfDefer : Editor → List Step → Tags → List ℕ → Editor → Type 0
-IsReplyOfDefer old steps tags bytes new =
-    (outcome : Outcome) × IsDeferred old steps tags outcome new × (bytes ≡ reply_text (reply_of None (view_told new) outcome))
-
--- The editor may answer a flush with these bytes, and be the new one after.
-abbrev pub IsReplyOfFlush : Editor → Recording → List ℕ → Editor → Type 0
-IsReplyOfFlush old how bytes new =
-    (outcome : Outcome) × IsFlushed old how outcome new × (bytes ≡ reply_text (reply_of None (view_told new) outcome))
-
--- The editor may answer a rule with these bytes, and be the new one after.
-abbrev pub IsReplyOfRule : Editor → RuleOf → ℕ → List ℕ → Editor → Type 0
-IsReplyOfRule old rule moment bytes new =
-    (outcome : Outcome) × IsRegistered old rule moment outcome new × (bytes ≡ reply_text (reply_of None (view_told new) outcome))
-
--- The editor may answer a load of this document with these bytes, and be the new one after.
-abbrev pub IsReplyOfLoad : Editor → Data → Recording → List ℕ → Editor → Type 0
-IsReplyOfLoad old document how bytes new =
-    (outcome : Outcome) × IsLoaded old document how outcome new × (bytes ≡ reply_text (reply_of None (view_told new) outcome))
+-- These bytes are the reply that gives an outcome which such a request has, and the editor that it leaves is this.
+abbrev pub IsReplyOf : (Outcome → Editor → Type 0) → List ℕ → Editor → Type 0
+IsReplyOf Has bytes new = (outcome : Outcome) × Has outcome new × (bytes ≡ reply_text (reply_of None (view_told new) outcome))
 
 -- The editor may answer a dispatch with these bytes, and be the new one after.
 abbrev pub IsReplyOfDispatch : Editor → Command → Recording → List ℕ → Editor → Type 0
@@ -103,13 +79,13 @@ IsReplyOfListener old listener bytes new =
 -- The editor may answer a line of this form and with these tags, at its time, with these bytes, and be the new one
 -- after. A question changes nothing.
 unfoldable pub RepliesTo : Editor → Tags → Form → List ℕ → Editor → Type 0
-RepliesTo old tags (Update script) bytes new = IsReplyOfUpdate old (steps_of script) (recording tags old.moment) bytes new
-RepliesTo old tags (Defer script) bytes new = IsReplyOfDefer old (steps_of script) tags bytes new
-RepliesTo old tags Flush bytes new = IsReplyOfFlush old (recording tags old.moment) bytes new
+RepliesTo old tags (Update script) bytes new = IsReplyOf (IsUpdated old (steps_of script) (recording tags old.moment)) bytes new
+RepliesTo old tags (Defer script) bytes new = IsReplyOf (IsDeferred old (steps_of script) tags) bytes new
+RepliesTo old tags Flush bytes new = IsReplyOf (IsFlushed old (recording tags old.moment)) bytes new
 RepliesTo old tags (Dispatch command) bytes new = IsReplyOfDispatch old command (recording tags old.moment) bytes new
-RepliesTo old tags (Rule rule) bytes new = IsReplyOfRule old rule old.moment bytes new
+RepliesTo old tags (Rule rule) bytes new = IsReplyOf (IsRegistered old rule old.moment) bytes new
 RepliesTo old tags (Listener listener) bytes new = IsReplyOfListener old listener bytes new
-RepliesTo old tags (Load document) bytes new = IsReplyOfLoad old (view document) (recording tags old.moment) bytes new
+RepliesTo old tags (Load document) bytes new = IsReplyOf (IsLoaded old (view document) (recording tags old.moment)) bytes new
 RepliesTo old tags (Show shown) bytes new = (bytes ≡ shown_text shown old) × (new ≡ old)
 RepliesTo old tags Clear bytes new = (bytes ≡ reply_text reply.Cleared) × (new ≡ with_nothing_recorded old)
 

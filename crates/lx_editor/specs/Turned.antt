@@ -15,7 +15,7 @@ use Rattle.lx_editor.specs.declared.outcome.Outcome.{Outcome}
 use Rattle.lx_editor.specs.declared.outcome.Outcome.TheVariants.{Committed, Gathered, Refused, Idle}
 use Rattle.lx_editor.specs.Editor.{Editor}
 use Rattle.lx_editor.specs.Gathering.{is_gathering, with_nothing_pending}
-use Rattle.lx_editor.specs.Updated.{hosts_fault, most_reads}
+use Rattle.lx_editor.specs.Updated.{hosts_fault, most_reads, with_commit}
 
 -- whether a node is in either tree, each of which counts as marked
 abbrev pub is_in_either : Forest → Forest → ℕ → Bool
@@ -36,20 +36,7 @@ pub record IsTurned (turn : Turn) (moment : ℕ) (old : Editor) (commit : ℕ) (
   pub joined : IsJoined entry.links
   pub numbered : IsNumbered entry.links
   pub number : commit ≡ old.commits + 1
-  pub made : new ≡ record {
-    tree = entry.links;
-    selection = entry.selection;
-    next_key = old.next_key;
-    pending = None;
-    commits = old.commits + 1;
-    view = new.view;
-    last = Some (record { ops = ops; reads = reads });
-    history = new.history;
-    moment = old.moment;
-    rules = old.rules;
-    listeners = old.listeners;
-    tells_view = old.tells_view;
-  }
+  pub made : new ≡ with_commit entry new.view (record { ops = ops; reads = reads }) new.history old
 
 -- There is an entry, but the view has no ids for it, and nothing changes.
 pub record IsUnshowableEntry (turn : Turn) (old : Editor) (cause : Cause) (step : Option ℕ) (new : Editor) : Type 0 where

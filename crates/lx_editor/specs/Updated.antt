@@ -13,6 +13,7 @@ use Rattle.lx_step.specs.declared.step.Step.{Step}
 use Rattle.lx_step.specs.declared.listener.Listener.{Listener}
 use Rattle.lx_forest.specs.Forest.{Forest}
 use Rattle.lx_reconcile.specs.Allowed.{AreAllowed, marked_children, staying, unkept}
+use Rattle.lx_reconcile.specs.Told.{Told}
 use Rattle.lx_draft.specs.Working.{Working}
 use Rattle.lx_draft.specs.Freezing.{freeze_step}
 use Rattle.lx_draft.specs.Faults.{over, after}
@@ -101,6 +102,19 @@ recorded old how left =
 
 -- ---- what is made of it
 
+-- the editor that has committed this state: nothing is pending in it any more, and its view, what the commit answered and its
+-- history are these
+abbrev pub with_commit : State → HostTree → Told → History → Editor → Editor
+with_commit state view told history e = record e {
+  tree = state.links;
+  selection = state.selection;
+  pending = None;
+  commits = e.commits + 1;
+  view = view;
+  last = Some told;
+  history = history;
+}
+
 -- nothing is marked, and the selection is the committed one
 pub record IsNothingNew (old : Editor) (left : Left) : Type 0 where
   pub none_marked : left.marks ≡ unmarked
@@ -133,20 +147,8 @@ pub record IsCommitted (old : Editor) (how : Recording) (left : Left) (commit : 
   pub reads : ℕ
   pub few : reads ≤ most_reads old.tree left.tree (is_noted left.marks)
   pub number : commit ≡ old.commits + 1
-  pub made : new ≡ record {
-    tree = left.tree;
-    selection = left.selection;
-    next_key = left.next_key;
-    pending = None;
-    commits = old.commits + 1;
-    view = new.view;
-    last = Some (record { ops = ops; reads = reads });
-    history = recorded old how left;
-    moment = old.moment;
-    rules = left.rules;
-    listeners = old.listeners;
-    tells_view = old.tells_view;
-  }
+  pub made : new ≡ with_commit (state_with left.tree left.selection) new.view (record { ops = ops; reads = reads }) (recorded old how left)
+      (record old { next_key = left.next_key; rules = left.rules })
 
 -- It is something new that the view has no ids for, and nothing changes.
 pub record IsUnshowable (old : Editor) (left : Left) (cause : Cause) (step : Option ℕ) (new : Editor) : Type 0 where

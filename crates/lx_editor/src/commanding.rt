@@ -79,8 +79,7 @@ impl Editor {
     ) -> Result<Vec<u8>, NoMemory>
         requires room { self.old.commits < last_u32 }
         requires untold { told.old.change ≡ None }
-        ensures change { OnOk result (IsToldChange told.old.asked self.old told.new.change self.new) }
-        ensures replies { IfOk result (λ reply. IsReplyOfDispatch self.old command.now how reply.items self.new) }
+        ensures replies { IfOk result (λ reply. IsReplyOfDispatch self.old command.now how reply.items self.new × IsToldChange told.old.asked self.old told.new.change self.new) }
         ensures commits { self.new.commits ≤ self.old.commits + 1 }
         ensures unchanged { OnErr result (self.new ≡ with_nothing_pending self.old) }
     {

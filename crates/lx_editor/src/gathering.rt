@@ -173,9 +173,6 @@ impl Editor {
         ensures commits { self.new.commits ≤ self.old.commits + 1 }
         ensures unchanged { OnErr result (self.new ≡ with_nothing_pending self.old) }
     {
-        let all = self.recording(how);
-        let draft = self.take_draft(alloc)?;
-        let verdict = self.judge_draft(alloc, draft)?;
-        self.conclude(alloc, verdict, None, all, sayer)
+        self.update_saying(alloc, &[], how, sayer)
     }
 }

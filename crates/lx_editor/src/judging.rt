@@ -121,7 +121,7 @@ impl Editor {
     }
 
     /// What a draft comes to: it comes to rest under the rules, and what it leaves is weighed.
-    pub(crate) fn judge_draft(&self, alloc: Global, draft: Draft) -> Result<Verdict, NoMemory>
+    fn judge_draft(&self, alloc: Global, draft: Draft) -> Result<Verdict, NoMemory>
         requires covered { drafts.AreCovered (started_of self.now) draft }
         ensures judged { IfOk result (IsJudged (rested_by self.now.rules draft) self.now) }
     {

@@ -102,7 +102,7 @@ impl Editor {
     }
 
     /// Does what a line of this form asks for at its time.
-    #[tactic(auto, using(crate::proofs::Waiting::rule_left_without), unfolding(crate::specs::Follows::RepliesTo))]
+    #[tactic(auto, using(crate::proofs::Waiting::rule_left_without, crate::proofs::Said::replying), unfolding(crate::specs::Follows::RepliesTo))]
     fn reply_to_form(
         &mut self,
         alloc: Global,
@@ -113,12 +113,11 @@ impl Editor {
         requires sound { IsSoundForm form }
         requires room { self.old.commits < last_u32 }
         requires untold { told.old.change ≡ None }
-        ensures change { OnOk result (IsToldChange told.old.asked self.old told.new.change self.new) }
-        ensures replies { IfOk result (λ reply. RepliesTo self.old tags form reply.items self.new) }
+        ensures replies { IfOk result (λ reply. RepliesTo self.old tags form reply.items self.new × IsToldChange told.old.asked self.old told.new.change self.new) }
         ensures commits { self.new.commits ≤ self.old.commits + 1 }
         ensures unchanged { OnErr result (IsLeftWithout self.old self.new) }
     {
-        let moment = self.moment;
+        let moment = self.last_moment();
         let how = Recording { tags, moment };
         match form {
             Form::Update(steps) => self.update_saying(alloc, steps.items(), how, told),

@@ -28,7 +28,6 @@ fn boxed_copy(alloc: Global, state: &State) -> Result<Box<State>, NoMemory>
 
 impl Editor {
     ghost use Rattle.std.specs.Prelude.{◌+◌, ◌<◌, ◌≤◌, length, OnOk, OnErr};
-    ghost use Rattle.lx_step.specs.declared.built_in.Turn.TheVariants as way;
     ghost use Rattle.lx_script.specs.Replies.{reply_text};
     ghost use Rattle.lx_script.specs.declared.reply.Reply.TheVariants.{Cleared};
     ghost use Rattle.lx_editor.specs.Standing.{IsEntry, EachEntry};
@@ -36,34 +35,14 @@ impl Editor {
     ghost use Rattle.lx_editor.specs.Turned.{IsTurned, IsTurnedAlone, IsTurnedBy, with_nothing_recorded};
     ghost use Rattle.lx_editor.specs.Judged.{MayTurn, IsTurnJudged};
 
-    /// Goes back: the history's next entry is committed as it was recorded, its tree and its selection, whatever was
-    /// written since. No rule is asked, and no key is given out again. The time is in milliseconds; no typing goes on
-    /// after an undo. It is idle exactly where there is no entry to go back to, and refused, as `TooLarge` with the
-    /// limit `hosts`, only where the view has no ids for the entry's nodes. While lines are gathered it is refused as
-    /// `HistoryInside`, and they are dropped. After a refusal, or where memory runs out, the editor is as it was in all
-    /// else.
-    pub fn undo(&mut self, alloc: Global, moment: u64) -> Result<Outcome, NoMemory>
-        requires room { self.old.commits < last_u32 }
-        ensures turned { IfOk result (λ outcome. IsTurnedAlone way.Undo moment self.old outcome self.new) }
-        ensures commits { self.new.commits ≤ self.old.commits + 1 }
-        ensures unchanged { OnErr result (self.new ≡ with_nothing_pending self.old) }
-    {
-        self.turn(alloc, Turn::Undo, moment)
-    }
-
-    /// Goes forth again, to the state from which the last undo came. It is idle exactly where there is none: nothing was
-    /// undone, or something was written and pushed since. Else it is as `undo`.
-    pub fn redo(&mut self, alloc: Global, moment: u64) -> Result<Outcome, NoMemory>
-        requires room { self.old.commits < last_u32 }
-        ensures turned { IfOk result (λ outcome. IsTurnedAlone way.Redo moment self.old outcome self.new) }
-        ensures commits { self.new.commits ≤ self.old.commits + 1 }
-        ensures unchanged { OnErr result (self.new ≡ with_nothing_pending self.old) }
-    {
-        self.turn(alloc, Turn::Redo, moment)
-    }
-
+    /// Undoes, or redoes: the history's next entry is committed as it was recorded, its tree and its selection, whatever
+    /// was written since. No rule is asked, and no key is given out again. The time is in milliseconds; no typing goes on
+    /// after it. It is idle exactly where there is no entry to go to; for a redo that is where nothing was undone, or
+    /// something was written and pushed since. It is refused, as `TooLarge` with the limit `hosts`, only where the view
+    /// has no ids for the entry's nodes. While lines are gathered it is refused as `HistoryInside`, and they are dropped.
+    /// After a refusal, or where memory runs out, the editor is as it was in all else.
     #[tactic(auto, unfolding(crate::specs::Turned::IsTurnedAlone))]
-    fn turn(&mut self, alloc: Global, turn: Turn, moment: u64) -> Result<Outcome, NoMemory>
+    pub fn turn(&mut self, alloc: Global, turn: Turn, moment: u64) -> Result<Outcome, NoMemory>
         requires room { self.old.commits < last_u32 }
         ensures turned { IfOk result (λ outcome. IsTurnedAlone turn moment self.old outcome self.new) }
         ensures commits { self.new.commits ≤ self.old.commits + 1 }
@@ -77,28 +56,26 @@ impl Editor {
                 step: None,
             });
         }
-        let how = Recording {
-            tags: Tags::none(),
-            moment,
-        };
-        self.turn_recorded(alloc, turn, how)
+        self.turn_alone(alloc, turn, moment)
     }
 
     /// Goes to another state of the history where no lines are gathered.
-    fn turn_recorded(
-        &mut self,
-        alloc: Global,
-        turn: Turn,
-        how: Recording,
-    ) -> Result<Outcome, NoMemory>
+    fn turn_alone(&mut self, alloc: Global, turn: Turn, moment: u64) -> Result<Outcome, NoMemory>
         requires room { self.old.commits < last_u32 }
-        ensures turned { IfOk result (λ outcome. IsTurnedBy turn how.moment self.old outcome self.new) }
+        ensures turned { IfOk result (λ outcome. IsTurnedBy turn moment self.old outcome self.new) }
         ensures commits { self.new.commits ≤ self.old.commits + 1 }
         ensures unchanged { OnErr result (self.new ≡ self.old) }
     {
         let verdict = self.judge_turn(alloc, turn)?;
+        let tags = Tags::none();
         let mut outcomes = Outcomes;
-        self.conclude(alloc, verdict, None, how, &mut outcomes)
+        self.conclude(
+            alloc,
+            verdict,
+            None,
+            Recording { tags, moment },
+            &mut outcomes,
+        )
     }
 
     /// What an undo or a redo comes to. It changes nothing.

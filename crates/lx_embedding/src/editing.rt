@@ -7,7 +7,7 @@ ghost use Rattle.lx_node.specs.Limits.{last_u32};
 use anyhow::{Result, bail};
 use lx_editor::{Editor, Outcome};
 use lx_node::{Key, PointKind, Txt};
-use lx_step::{Command, Payload, PointRef, Reference, SelectionRef, Step, Tags};
+use lx_step::{Command, Payload, PointRef, Reference, SelectionRef, Step, Tags, Turn};
 use std::alloc::Global;
 
 /// An error where the editor has no number for one more commit, which calls that may commit need.
@@ -72,13 +72,13 @@ pub(crate) fn sign(alloc: Global, editor: &mut Editor) -> Result<String> {
 
 pub(crate) fn undo(alloc: Global, editor: &mut Editor) -> Result<String> {
     room(editor)?;
-    let outcome = editor.undo(alloc, 5000)?;
+    let outcome = editor.turn(alloc, Turn::Undo, 5000)?;
     told(alloc, &outcome)
 }
 
 pub(crate) fn redo(alloc: Global, editor: &mut Editor) -> Result<String> {
     room(editor)?;
-    let outcome = editor.redo(alloc, 6000)?;
+    let outcome = editor.turn(alloc, Turn::Redo, 6000)?;
     told(alloc, &outcome)
 }
 

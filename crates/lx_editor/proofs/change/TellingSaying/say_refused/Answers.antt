@@ -1,11 +1,8 @@
-use Rattle.lx_editor.proofs.Changed.{none_told}
+use Rattle.lx_editor.proofs.Said.{still_said}
 use Rattle.lx_editor.proofs.Told.{told}
 use Rattle.lx_editor.proofs.change.TellingSaying.say_refused.Goals as goal
 
 pub returns : goal.returns
 returns c =
-    let telling = c.args.self.now in
-    record {
-      said = told c.write_reply.result _ _ c.write_reply.ensures
-          (λ bytes text. λ handled old new same. (text, λ none. none_told telling.asked old telling.change new none same));
-    }
+    let still = still_said c.write_reply.result (λ said. said.items) _ c.args.self.now c.write_reply.ensures in
+    record { said = told c.write_reply.result _ _ still (λ bytes is. λ handled. is) }

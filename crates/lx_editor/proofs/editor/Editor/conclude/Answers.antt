@@ -9,36 +9,29 @@ use Rattle.lx_editor.proofs.editor.Editor.conclude.Goals as goal
 pub returns-in_ok-commit-in-Commit-clause-concluded : goal.returns-in_ok-commit-in-Commit-clause-concluded
 returns-in_ok-commit-in-Commit-clause-concluded g c =
     let old = c.args.self.now in
-    let batch = c.in-Commit.batch in
-    let frozen = c.in-Commit.frozen in
-    let shown = c.in-Commit.shown in
+    let to = c.in-Commit in
     let new = c.commit.new.self in
-    let outcome = made.Committed (old.commits + 1) batch.ops in
-    let may : MayConclude old (Commit frozen batch shown) = subst (MayConclude old) c.in-Commit.is c.requires.may in
+    let may : MayConclude old (Commit to.frozen to.batch to.shown) = subst (MayConclude old) to.is c.requires.may in
     let done = c.in_ok-commit-in-Commit.ensures.committed in (
-      outcome,
-      subst (λ v. IsConcluded old c.args.how v outcome new) (sym c.in-Commit.is) done,
+      made.Committed (old.commits + 1) to.batch.ops,
+      subst (λ v. IsConcluded old c.args.how v (made.Committed (old.commits + 1) to.batch.ops) new) (sym to.is) done,
       λ e same. c.in_ok-said-in-Commit.ensures.said e new same
-          (committed_has old c.args.how frozen.value c.as_ref-left.result.now shown c.covering-marks.result.now batch.ops new c.as_ref-left.ensures
+          (committed_has old c.args.how to.frozen.value c.as_ref-left.result.now to.shown c.covering-marks.result.now to.batch.ops new c.as_ref-left.ensures
           c.covering-marks.ensures may.1 done),
     )
 
 pub returns-in_ok-commit_entry-in-Turned-clause-concluded : goal.returns-in_ok-commit_entry-in-Turned-clause-concluded
 returns-in_ok-commit_entry-in-Turned-clause-concluded g c =
     let old = c.args.self.now in
-    let turn = c.in-Turned.turn in
-    let state = c.in-Turned.state in
-    let batch = c.in-Turned.batch in
-    let marks = c.in-Turned.marks in
+    let to = c.in-Turned in
     let new = c.commit_entry.new.self in
-    let outcome = made.Committed (old.commits + 1) batch.ops in
-    let may : MayConclude old (Turned turn state batch marks) = subst (MayConclude old) c.in-Turned.is c.requires.may in
+    let may : MayConclude old (Turned to.turn to.state to.batch to.marks) = subst (MayConclude old) to.is c.requires.may in
     let done = c.in_ok-commit_entry-in-Turned.ensures.turned in (
-      outcome,
-      subst (λ v. IsConcluded old c.args.how v outcome new) (sym c.in-Turned.is) done,
+      made.Committed (old.commits + 1) to.batch.ops,
+      subst (λ v. IsConcluded old c.args.how v (made.Committed (old.commits + 1) to.batch.ops) new) (sym to.is) done,
       λ e same. c.in_ok-said-in-Turned.ensures.said e new same
-          (turned_has turn c.args.how.moment old state.value c.as_ref-next.result.now marks.value c.as_ref.result.now batch.ops new c.as_ref-next.ensures
-          c.as_ref.ensures may.0.next may.1 done),
+          (turned_has to.turn c.args.how.moment old to.state.value c.as_ref-next.result.now to.marks.value c.as_ref.result.now to.batch.ops new
+          c.as_ref-next.ensures c.as_ref.ensures may.0.next may.1 done),
     )
 
 pub returns-in-Refused-clause-concluded : goal.returns-in-Refused-clause-concluded

@@ -1,23 +1,8 @@
-use Rattle.lx_editor.specs.Updated.{IsFlushed, rested_by}
-use Rattle.lx_editor.proofs.Judged.{may_conclude, taken_in}
-use Rattle.lx_editor.proofs.Changed.{uncommitted_pending}
 use Rattle.lx_editor.proofs.Told.{told}
+use Rattle.lx_editor.proofs.Updated.{is_flushed}
 use Rattle.lx_editor.proofs.editor.Editor.flush_saying.Goals as goal
 
-pub conclude-requires-clause-may : goal.conclude-requires-clause-may
-conclude-requires-clause-may g c =
-    let mid = c.take_draft.new.self in
-    may_conclude (rested_by mid.rules c.in_ok-draft.draft) mid c.in_ok-verdict.verdict c.in_ok-verdict.ensures.judged
-
 pub returns-clause-flushed : goal.returns-clause-flushed
-unfolding IsFlushed
 returns-clause-flushed g c =
-    let old = c.args.self.now in
-    let mid = c.take_draft.new.self in
-    told c.conclude.result _ _ c.conclude.ensures.concluded
-    (λ said (outcome, done, tells). (
-      outcome,
-      taken_in (λ e w. rested_by e.rules w) old mid c.in_ok-draft.draft c.args.how c.recording-all.result c.in_ok-verdict.verdict outcome c.conclude.new.self
-          c.take_draft.ensures.taken c.in_ok-draft.ensures.begun c.recording-all.ensures c.in_ok-verdict.ensures.judged done,
-      tells old (uncommitted_pending old mid c.take_draft.ensures.taken),
-    ))
+    told c.update_saying.result _ _ c.update_saying.ensures.updated
+    (λ said (outcome, updated, tells). (outcome, is_flushed c.args.self.now c.args.how outcome c.update_saying.new.self updated, tells))

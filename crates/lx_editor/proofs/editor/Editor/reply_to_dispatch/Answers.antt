@@ -9,7 +9,5 @@ pub returns-in-Ok-clause-replies : goal.returns-in-Ok-clause-replies
 returns-in-Ok-clause-replies c =
     let (outcome, done, said) = c.in-Ok.ensures.dispatched in
     let handled = c.in-Ok.field-0-0 in
-    (outcome, unless_refused outcome handled, done, said.0 ∙ ap reply_text (handled_told outcome (view_told c.dispatch_saying.new.self) handled))
-
-pub returns-in-Ok-clause-change : goal.returns-in-Ok-clause-change
-returns-in-Ok-clause-change c = let (outcome, done, said) = c.in-Ok.ensures.dispatched in said.1 c.requires.untold
+    let text = said.0 ∙ ap reply_text (handled_told outcome (view_told c.dispatch_saying.new.self) handled) in
+    ((outcome, unless_refused outcome handled, done, text), said.1 c.requires.untold)

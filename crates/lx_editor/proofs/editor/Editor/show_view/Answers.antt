@@ -13,4 +13,4 @@ returns c =
     let e : Editor = editor_of c.self.inside in
     subst (λ (d : Editor). IfOk c.write_reply.result (λ bytes. bytes.items ≡ reply_text (reply.View (html_of (render d.tree))))) c.self.view_is
     (subst (λ html. IfOk c.write_reply.result (λ bytes. bytes.items ≡ reply_text (reply.View html)))
-    (c.in_ok-html.ensures.html ∙ printed e c.self.invariant.valid) c.write_reply.ensures)
+    (c.in_ok-html.ensures.html ∙ printed e.tree e.view c.self.invariant.valid.state.alone c.self.invariant.valid.shown) c.write_reply.ensures)
