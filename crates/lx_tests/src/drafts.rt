@@ -5,6 +5,7 @@ ghost use Rattle.lx_draft.specs.Working.{MayStart};
 use lx_draft::{Draft, PointRule, Round, State};
 use lx_node::{Fault, Fields, Key, Kind, Point, PointKind};
 use lx_select::Selection;
+use lx_told::expect;
 use std::alloc::Global;
 use std::test::Fail;
 
@@ -15,6 +16,21 @@ pub(crate) fn fill(alloc: Global, draft: &mut Draft) -> Result<(), Fault> {
     let text = draft.new_node(Kind::Text, Fields::plain_text(alloc, "words")?)?;
     draft.put(text, paragraph, 0)?;
     draft.put(paragraph, Key::root(), 0)
+}
+
+/// A draft of a state, with that paragraph.
+pub(crate) fn begun(alloc: Global, state: &State) -> Result<Draft, Fault>
+    requires { MayStart state.now.links 1 }
+{
+    let mut draft = Draft::start(alloc, state, 1)?;
+    fill(alloc, &mut draft)?;
+    Ok(draft)
+}
+
+/// A draft of a new state, with that paragraph.
+fn filled(alloc: Global) -> Result<Draft, Fault> {
+    let state = State::new(alloc)?;
+    begun(alloc, &state)
 }
 
 /// The keys of a list.
@@ -58,27 +74,17 @@ fn push_round(alloc: Global, draft: &mut Draft, told: &mut String) -> Result<(),
 /// Three rounds of a draft whose nodes are new.
 fn told_rounds(alloc: Global, draft: &mut Draft) -> Result<String, Fail> {
     let mut told = String::new(alloc);
-    fill(alloc, draft)?;
-    push_round(alloc, draft, &mut told)?;
-    push_round(alloc, draft, &mut told)?;
-    push_round(alloc, draft, &mut told)?;
+    for _ in 0..3 {
+        push_round(alloc, draft, &mut told)?;
+    }
     Ok(told)
-}
-
-fn rounds(alloc: Global, state: &State) -> Result<String, Fail>
-    requires { MayStart state.now.links 1 }
-{
-    let mut draft = Draft::start(alloc, state, 1)?;
-    told_rounds(alloc, &mut draft)
 }
 
 #[test]
 fn rounds_give_leaves_first(rt: HostRuntime) -> Result<(), Fail> {
-    let alloc = rt.alloc();
-    let state = State::new(alloc)?;
-    let text = rounds(alloc, &state)?;
-    assert_eq!(rt; text.as_str(), "leaves 2, elements 1! 0!, rest, ");
-    Ok(())
+    let mut draft = filled(rt.alloc())?;
+    let text = told_rounds(rt.alloc(), &mut draft)?;
+    expect(&text, "leaves 2, elements 1! 0!, rest, ")
 }
 
 /// Marks a text whose marks have been handled, by one of the two calls.
@@ -93,7 +99,6 @@ fn mark(draft: &mut Draft, counts: bool) -> Result<(), Fault> {
 /// The round after such a mark, and whether it was counted.
 fn told_mark(alloc: Global, draft: &mut Draft, counts: bool) -> Result<String, Fail> {
     let mut told = String::new(alloc);
-    fill(alloc, draft)?;
     draft.take_round()?;
     draft.take_round()?;
     let before = draft.counted();
@@ -103,21 +108,12 @@ fn told_mark(alloc: Global, draft: &mut Draft, counts: bool) -> Result<String, F
     Ok(format!(in alloc; "{}{counted}", told.as_str())?)
 }
 
-fn marked(alloc: Global, state: &State, counts: bool) -> Result<String, Fail>
-    requires { MayStart state.now.links 1 }
-{
-    let mut draft = Draft::start(alloc, state, 1)?;
-    told_mark(alloc, &mut draft, counts)
-}
-
 #[test]
 fn a_mark_is_counted_or_not(rt: HostRuntime) -> Result<(), Fail> {
-    let alloc = rt.alloc();
-    let state = State::new(alloc)?;
-    let text = marked(alloc, &state, true)?;
-    assert_eq!(rt; text.as_str(), "leaves 2, true");
-    let text = marked(alloc, &state, false)?;
-    assert_eq!(rt; text.as_str(), "leaves 2, false");
+    for (counts, wanted) in [(true, "leaves 2, true"), (false, "leaves 2, false")] {
+        let mut draft = filled(rt.alloc())?;
+        expect(&told_mark(rt.alloc(), &mut draft, counts)?, wanted)?;
+    }
     Ok(())
 }
 
@@ -135,88 +131,56 @@ fn told_selection(alloc: Global, selection: &Selection) -> Result<String, Fail> 
     }
 }
 
-/// A range in the text of a draft.
-fn chosen(from: u32, to: u32) -> Selection {
-    Selection::Range {
-        anchor: Point {
-            key: Key(2),
-            offset: from,
-            kind: PointKind::Text,
-        },
-        focus: Point {
-            key: Key(2),
-            offset: to,
-            kind: PointKind::Text,
-        },
-        format: 0,
+/// A place in the text of a draft.
+fn place(offset: u32) -> Point {
+    Point {
+        key: Key(2),
+        offset,
+        kind: PointKind::Text,
     }
 }
 
-/// Where the points of a range are after a rule.
-fn told_points(alloc: Global, draft: &mut Draft) -> Result<String, Fail> {
-    fill(alloc, draft)?;
-    draft.select(chosen(1, 4))?;
+#[test]
+fn points_move_by_a_rule(rt: HostRuntime) -> Result<(), Fail> {
+    let mut draft = filled(rt.alloc())?;
+    draft.select(Selection::Range {
+        anchor: place(1),
+        focus: place(4),
+        format: 0,
+    })?;
     draft.point_rule(PointRule::Splice {
         key: Key(2),
         from: 2,
         to: 3,
         len: 2,
     });
-    told_selection(alloc, draft.selection())
-}
-
-fn points(alloc: Global, state: &State) -> Result<String, Fail>
-    requires { MayStart state.now.links 1 }
-{
-    let mut draft = Draft::start(alloc, state, 1)?;
-    told_points(alloc, &mut draft)
-}
-
-#[test]
-fn points_move_by_a_rule(rt: HostRuntime) -> Result<(), Fail> {
-    let alloc = rt.alloc();
-    let state = State::new(alloc)?;
-    let text = points(alloc, &state)?;
-    assert_eq!(rt; text.as_str(), "2 at 1, 2 at 5");
-    Ok(())
+    expect(
+        &told_selection(rt.alloc(), draft.selection())?,
+        "2 at 1, 2 at 5",
+    )
 }
 
 /// What is on either side of the first paragraph, 1, once the second one, 3, which was put before it, has gone after it.
 fn told_neighbours(alloc: Global, draft: &mut Draft) -> Result<String, Fail> {
-    fill(alloc, draft)?;
     fill(alloc, draft)?;
     lx_edit::move_behind(draft, Key(1), Key(3))?;
     let links = draft.links();
     Ok(format!(in alloc; "{:?} {:?}", links.previous(Key(1)), links.next(Key(1)))?)
 }
 
-fn neighbours(alloc: Global, state: &State) -> Result<String, Fail>
-    requires { MayStart state.now.links 1 }
-{
-    let mut draft = Draft::start(alloc, state, 1)?;
-    told_neighbours(alloc, &mut draft)
-}
-
 #[test]
 fn a_node_goes_behind_another(rt: HostRuntime) -> Result<(), Fail> {
-    let alloc = rt.alloc();
-    let state = State::new(alloc)?;
-    let text = neighbours(alloc, &state)?;
-    assert_eq!(rt; text.as_str(), "None Some(Key(3))");
-    Ok(())
-}
-
-/// How many nodes a copy of a state has.
-fn copied(alloc: Global, state: &State) -> Result<u32, Fail> {
-    let copy = state.copy(alloc)?;
-    Ok(copy.links.len())
+    let mut draft = filled(rt.alloc())?;
+    expect(
+        &told_neighbours(rt.alloc(), &mut draft)?,
+        "None Some(Key(3))",
+    )
 }
 
 #[test]
 fn a_copy_has_the_same_nodes(rt: HostRuntime) -> Result<(), Fail> {
-    let alloc = rt.alloc();
-    let state = State::new(alloc)?;
-    let nodes = copied(alloc, &state)?;
-    assert_eq!(rt; nodes, 1);
+    let state = State::new(rt.alloc())?;
+    let copy = state.copy(rt.alloc())?;
+    assert_eq!(rt; copy.links.len(), 1);
     Ok(())
 }

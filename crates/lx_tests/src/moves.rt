@@ -1,8 +1,9 @@
 //! The moves from some children to others.
 
+ghost use Rattle.std.specs.Prelude.{IsTrue};
 ghost use Rattle.lx_trees.specs.Siblings.{NoRepeats};
 
-use lx_node::Key;
+use lx_node::{Key, NoMemory};
 use lx_reconcile::{Move, walk};
 use std::alloc::Global;
 use std::test::Fail;
@@ -25,12 +26,30 @@ fn told(alloc: Global, next: &Move) -> Result<String, Fail> {
     }
 }
 
-/// The moves from these children to those, in words.
-fn walked(alloc: Global, old: &[Key], new: &[Key]) -> Result<String, Fail>
-    requires old { NoRepeats old.now }
-    requires new { NoRepeats new.now }
+fn keys(alloc: Global, numbers: &[u32]) -> Result<Vec<Key>, NoMemory> {
+    let mut keys = Vec::new(alloc);
+    for number in numbers {
+        keys.push(Key(*number))?;
+    }
+    Ok(keys)
+}
+
+/// Whether no key is there twice.
+fn are_once(keys: &[Key]) -> bool
+    ensures { IsTrue result → NoRepeats keys.now }
 {
+    match keys.split_first() {
+        Some((first, rest)) => !rest.contains(first) && are_once(rest),
+        None => true,
+    }
+}
+
+/// The moves from these children to those, in words.
+fn walked(alloc: Global, old: &[Key], new: &[Key]) -> Result<String, Fail> {
     let mut text = String::new(alloc);
+    if !are_once(old) || !are_once(new) {
+        return Err(Fail::new("a child is there twice"));
+    }
     for next in &walk(alloc, old, new)? {
         let words = told(alloc, next)?;
         text.push_str(words.as_str())?;
@@ -38,102 +57,60 @@ fn walked(alloc: Global, old: &[Key], new: &[Key]) -> Result<String, Fail>
     Ok(text)
 }
 
-#[test]
-fn the_first_child_goes_to_the_end(rt: HostRuntime) -> Result<(), Fail> {
-    let old = [Key(1), Key(3), Key(5), Key(7), Key(9)];
-    let new = [Key(3), Key(5), Key(7), Key(9), Key(1)];
-    let text = walked(rt.alloc(), &old, &new)?;
-    assert_eq!(rt;
-        text.as_str(),
-        "place 3 before 1, place 5 before 1, place 7 before 1, place 9 before 1, 1 stays, "
-    );
-    Ok(())
-}
+/// Children before and after, by the numbers of their keys, with the moves from the ones to the others.
+const WALKS: [(&[u32], &[u32], &str); 11] = [
+    // The first child goes to the end.
+    (
+        &[1, 3, 5, 7, 9],
+        &[3, 5, 7, 9, 1],
+        "place 3 before 1, place 5 before 1, place 7 before 1, place 9 before 1, 1 stays, ",
+    ),
+    // One leaves, and the last comes first.
+    (
+        &[1, 3, 5, 7, 9],
+        &[9, 1, 3, 7],
+        "place 9 before 1, 1 stays, 5 leaves, place 3 before 7, 7 stays, ",
+    ),
+    // All are made, or leave.
+    (&[], &[1, 2], "make 1, make 2, "),
+    (&[1, 2], &[], "1 leaves, 2 leaves, "),
+    // Equal lists stay.
+    (&[4, 2, 9], &[4, 2, 9], "4 stays, 2 stays, 9 stays, "),
+    (&[], &[], ""),
+    // Another comes in the place of one.
+    (
+        &[1, 2, 3],
+        &[1, 4, 3],
+        "1 stays, 2 leaves, make 4 before 3, 3 stays, ",
+    ),
+    // Four turn round.
+    (
+        &[1, 2, 3, 4],
+        &[4, 3, 2, 1],
+        "place 4 before 1, place 3 before 1, place 2 before 1, 1 stays, ",
+    ),
+    // The cursor passes the last child while one before it still waits for its place.
+    (
+        &[1, 2, 3],
+        &[3, 2, 5, 1],
+        "place 3 before 1, 2 stays, make 5, place 1, ",
+    ),
+    // Two that are new come after the last child, and one that leaves does after they are reached.
+    (
+        &[2, 1],
+        &[1, 2, 7, 8],
+        "place 1 before 2, 2 stays, make 7, make 8, ",
+    ),
+    (&[6, 1, 8], &[1], "6 leaves, 1 stays, 8 leaves, "),
+];
 
 #[test]
-fn one_leaves_and_the_last_comes_first(rt: HostRuntime) -> Result<(), Fail> {
-    let old = [Key(1), Key(3), Key(5), Key(7), Key(9)];
-    let new = [Key(9), Key(1), Key(3), Key(7)];
-    let text = walked(rt.alloc(), &old, &new)?;
-    assert_eq!(rt;
-        text.as_str(),
-        "place 9 before 1, 1 stays, 5 leaves, place 3 before 7, 7 stays, "
-    );
-    Ok(())
-}
-
-#[test]
-fn all_are_made_or_leave(rt: HostRuntime) -> Result<(), Fail> {
-    let keys = [Key(1), Key(2)];
-    let made = walked(rt.alloc(), &[], &keys)?;
-    let left = walked(rt.alloc(), &keys, &[])?;
-    assert_eq!(rt; made.as_str(), "make 1, make 2, ");
-    assert_eq!(rt; left.as_str(), "1 leaves, 2 leaves, ");
-    Ok(())
-}
-
-#[test]
-fn equal_lists_stay(rt: HostRuntime) -> Result<(), Fail> {
-    let keys = [Key(4), Key(2), Key(9)];
-    let stayed = walked(rt.alloc(), &keys, &keys)?;
-    let nothing = walked(rt.alloc(), &[], &[])?;
-    assert_eq!(rt; stayed.as_str(), "4 stays, 2 stays, 9 stays, ");
-    assert_eq!(rt; nothing.as_str(), "");
-    Ok(())
-}
-
-#[test]
-fn another_comes_in_the_place_of_one(rt: HostRuntime) -> Result<(), Fail> {
-    let text = walked(
-        rt.alloc(),
-        &[Key(1), Key(2), Key(3)],
-        &[Key(1), Key(4), Key(3)],
-    )?;
-    assert_eq!(rt;
-        text.as_str(),
-        "1 stays, 2 leaves, make 4 before 3, 3 stays, "
-    );
-    Ok(())
-}
-
-#[test]
-fn four_turn_round(rt: HostRuntime) -> Result<(), Fail> {
-    let old = [Key(1), Key(2), Key(3), Key(4)];
-    let new = [Key(4), Key(3), Key(2), Key(1)];
-    let text = walked(rt.alloc(), &old, &new)?;
-    assert_eq!(rt;
-        text.as_str(),
-        "place 4 before 1, place 3 before 1, place 2 before 1, 1 stays, "
-    );
-    Ok(())
-}
-
-/// The cursor passes the last child while one before it still waits for its place.
-#[test]
-fn the_cursor_comes_to_the_end(rt: HostRuntime) -> Result<(), Fail> {
-    let old = [Key(1), Key(2), Key(3)];
-    let new = [Key(3), Key(2), Key(5), Key(1)];
-    let text = walked(rt.alloc(), &old, &new)?;
-    assert_eq!(rt;
-        text.as_str(),
-        "place 3 before 1, 2 stays, make 5, place 1, "
-    );
-    Ok(())
-}
-
-/// Two that are new come after the last child, and one that leaves does after they are reached.
-#[test]
-fn what_is_left_of_either_list_comes_last(rt: HostRuntime) -> Result<(), Fail> {
-    let more = walked(
-        rt.alloc(),
-        &[Key(2), Key(1)],
-        &[Key(1), Key(2), Key(7), Key(8)],
-    )?;
-    let less = walked(rt.alloc(), &[Key(6), Key(1), Key(8)], &[Key(1)])?;
-    assert_eq!(rt;
-        more.as_str(),
-        "place 1 before 2, 2 stays, make 7, make 8, "
-    );
-    assert_eq!(rt; less.as_str(), "6 leaves, 1 stays, 8 leaves, ");
+fn children_become_others(rt: HostRuntime) -> Result<(), Fail> {
+    for (before, after, wanted) in &WALKS {
+        let old = keys(rt.alloc(), before)?;
+        let new = keys(rt.alloc(), after)?;
+        let moves = walked(rt.alloc(), &old, &new)?;
+        assert_eq!(rt; moves.as_str(), *wanted, "{before:?} to {after:?}");
+    }
     Ok(())
 }

@@ -1,12 +1,11 @@
 //! How many nodes of a tree keep no host of the tree before it. An editor asks only where its view's ids come to their end.
 
-ghost use Rattle.lx_draft.specs.Working.{MayStart};
-
-use crate::drafts::fill;
-use lx_draft::{Draft, State};
+use crate::drafts::begun;
+use lx_draft::State;
 use lx_links::{Counted, Links};
 use lx_node::{Key, NoMemory};
 use lx_reconcile::unkept;
+use lx_told::expect;
 use std::alloc::Global;
 use std::test::Fail;
 
@@ -21,27 +20,21 @@ fn counted<'a>(before: &'a Links, after: &'a Links) -> Result<Option<u32>, NoMem
     }
 }
 
-/// The numbers from a tree to a draft that got two nodes more, back again, and to itself.
-fn told(alloc: Global, before: &Links, draft: &mut Draft) -> Result<String, Fail> {
-    fill(alloc, draft)?;
-    let more = counted(before, draft.links())?;
-    let fewer = counted(draft.links(), before)?;
-    let equal = counted(draft.links(), draft.links())?;
+/// The numbers from one tree to another, back again, and from the other to itself.
+fn told(alloc: Global, before: &Links, after: &Links) -> Result<String, Fail> {
+    let more = counted(before, after)?;
+    let fewer = counted(after, before)?;
+    let equal = counted(after, after)?;
     Ok(format!(in alloc; "{more:?} {fewer:?} {equal:?}")?)
 }
 
-fn counts(alloc: Global, state: &State) -> Result<String, Fail>
-    requires { MayStart state.now.links 1 }
-{
-    let mut draft = Draft::start(alloc, state, 1)?;
-    told(alloc, &state.links, &mut draft)
-}
-
+/// A draft gets two nodes more than its state has.
 #[test]
 fn new_nodes_are_not_kept(rt: HostRuntime) -> Result<(), Fail> {
-    let alloc = rt.alloc();
-    let state = State::new(alloc)?;
-    let text = counts(alloc, &state)?;
-    assert_eq!(rt; text.as_str(), "Some(2) Some(0) Some(0)");
-    Ok(())
+    let state = State::new(rt.alloc())?;
+    let draft = begun(rt.alloc(), &state)?;
+    expect(
+        &told(rt.alloc(), &state.links, draft.links())?,
+        "Some(2) Some(0) Some(0)",
+    )
 }

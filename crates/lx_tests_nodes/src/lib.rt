@@ -3,12 +3,4 @@
 #![tactic(auto)]
 
 #[cfg(test)]
-mod marks;
-#[cfg(test)]
-mod nodes;
-#[cfg(test)]
-mod patches;
-#[cfg(test)]
-mod selections;
-#[cfg(test)]
-mod texts;
+mod tests;

@@ -3,12 +3,4 @@
 #![tactic(auto)]
 
 #[cfg(test)]
-mod hosts;
-#[cfg(test)]
-mod links;
-#[cfg(test)]
-mod making;
-#[cfg(test)]
-mod shapes;
-#[cfg(test)]
-mod stores;
+mod tests;

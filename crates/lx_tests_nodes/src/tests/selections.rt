@@ -1,5 +1,6 @@
 use lx_node::{Key, Point, PointKind};
 use lx_select::{Keys, Selection};
+use lx_told::expect;
 use std::alloc::Global;
 use std::test::Fail;
 
@@ -25,110 +26,67 @@ enum Edit {
     MovePoints(u32, Place),
 }
 
-/// Edits, with the anchor and the focus of a range before and after each.
-const MOVES: [(Edit, [Place; 2], [Place; 2]); 19] = [
+/// The last number of an offset.
+const LAST: u32 = u32::MAX;
+
+/// Edits, each with a point before it and after.
+const MOVES: [(Edit, Place, Place); 38] = [
     // Put: at the index a point stays, and above it grows, up to the last number.
-    (
-        Edit::Put(1, 2),
-        [(1, 2, ELEMENT), (1, 3, ELEMENT)],
-        [(1, 2, ELEMENT), (1, 4, ELEMENT)],
-    ),
-    (
-        Edit::Put(1, 2),
-        [(1, 3, TEXT), (2, 3, ELEMENT)],
-        [(1, 3, TEXT), (2, 3, ELEMENT)],
-    ),
-    (
-        Edit::Put(1, 0),
-        [(1, u32::MAX, ELEMENT), (1, 0, ELEMENT)],
-        [(1, u32::MAX, ELEMENT), (1, 0, ELEMENT)],
-    ),
+    (Edit::Put(1, 2), (1, 2, ELEMENT), (1, 2, ELEMENT)),
+    (Edit::Put(1, 2), (1, 3, ELEMENT), (1, 4, ELEMENT)),
+    (Edit::Put(1, 2), (1, 3, TEXT), (1, 3, TEXT)),
+    (Edit::Put(1, 2), (2, 3, ELEMENT), (2, 3, ELEMENT)),
+    (Edit::Put(1, 0), (1, LAST, ELEMENT), (1, LAST, ELEMENT)),
+    (Edit::Put(1, 0), (1, 0, ELEMENT), (1, 0, ELEMENT)),
     // Take: at the index a point stays, and above it falls.
-    (
-        Edit::Take(1, 2),
-        [(1, 2, ELEMENT), (1, 3, ELEMENT)],
-        [(1, 2, ELEMENT), (1, 2, ELEMENT)],
-    ),
-    (
-        Edit::Take(1, 2),
-        [(1, 3, TEXT), (2, 3, ELEMENT)],
-        [(1, 3, TEXT), (2, 3, ELEMENT)],
-    ),
+    (Edit::Take(1, 2), (1, 2, ELEMENT), (1, 2, ELEMENT)),
+    (Edit::Take(1, 2), (1, 3, ELEMENT), (1, 2, ELEMENT)),
+    (Edit::Take(1, 2), (1, 3, TEXT), (1, 3, TEXT)),
+    (Edit::Take(1, 2), (2, 3, ELEMENT), (2, 3, ELEMENT)),
     // Splice: at `from`, between, at `to` and behind; on another key; and up to the last number.
-    (
-        Edit::Splice(1, 4, 7, 2),
-        [(1, 4, TEXT), (1, 5, TEXT)],
-        [(1, 4, TEXT), (1, 6, TEXT)],
-    ),
-    (
-        Edit::Splice(1, 4, 7, 2),
-        [(1, 7, TEXT), (1, 9, TEXT)],
-        [(1, 6, TEXT), (1, 8, TEXT)],
-    ),
-    (
-        Edit::Splice(1, 4, 7, u32::MAX),
-        [(1, 5, TEXT), (1, 9, TEXT)],
-        [(1, u32::MAX, TEXT), (1, u32::MAX, TEXT)],
-    ),
-    (
-        Edit::Splice(1, 4, 4, 2),
-        [(1, 4, TEXT), (2, 9, TEXT)],
-        [(1, 4, TEXT), (2, 9, TEXT)],
-    ),
+    (Edit::Splice(1, 4, 7, 2), (1, 4, TEXT), (1, 4, TEXT)),
+    (Edit::Splice(1, 4, 7, 2), (1, 5, TEXT), (1, 6, TEXT)),
+    (Edit::Splice(1, 4, 7, 2), (1, 7, TEXT), (1, 6, TEXT)),
+    (Edit::Splice(1, 4, 7, 2), (1, 9, TEXT), (1, 8, TEXT)),
+    (Edit::Splice(1, 4, 7, LAST), (1, 5, TEXT), (1, LAST, TEXT)),
+    (Edit::Splice(1, 4, 7, LAST), (1, 9, TEXT), (1, LAST, TEXT)),
+    (Edit::Splice(1, 4, 4, 2), (1, 4, TEXT), (1, 4, TEXT)),
+    (Edit::Splice(1, 4, 4, 2), (2, 9, TEXT), (2, 9, TEXT)),
     // Set: at the length a point stays, and past it gets the length; inside a pair it gets the pair's start.
-    (
-        Edit::Set(1, "a😀bc"),
-        [(1, 5, TEXT), (1, 6, TEXT)],
-        [(1, 5, TEXT), (1, 5, TEXT)],
-    ),
-    (
-        Edit::Set(1, "a😀bc"),
-        [(1, 2, TEXT), (1, 3, TEXT)],
-        [(1, 1, TEXT), (1, 3, TEXT)],
-    ),
+    (Edit::Set(1, "a😀bc"), (1, 5, TEXT), (1, 5, TEXT)),
+    (Edit::Set(1, "a😀bc"), (1, 6, TEXT), (1, 5, TEXT)),
+    (Edit::Set(1, "a😀bc"), (1, 2, TEXT), (1, 1, TEXT)),
+    (Edit::Set(1, "a😀bc"), (1, 3, TEXT), (1, 3, TEXT)),
     // Split: at the cut a point stays, and past it goes to the new key.
-    (
-        Edit::Split(1, 4, 9),
-        [(1, 4, TEXT), (1, 5, TEXT)],
-        [(1, 4, TEXT), (9, 1, TEXT)],
-    ),
+    (Edit::Split(1, 4, 9), (1, 4, TEXT), (1, 4, TEXT)),
+    (Edit::Split(1, 4, 9), (1, 5, TEXT), (9, 1, TEXT)),
     // Join: a point on the second goes to the first, up to the last number.
+    (Edit::Join(1, 4, 2), (1, 3, TEXT), (1, 3, TEXT)),
+    (Edit::Join(1, 4, 2), (2, 3, TEXT), (1, 7, TEXT)),
+    (Edit::Join(1, 4, 2), (2, 0, TEXT), (1, 4, TEXT)),
+    (Edit::Join(1, 4, 2), (2, LAST, TEXT), (1, LAST, TEXT)),
+    (Edit::Children(2, 1, 3), (1, 2, ELEMENT), (1, 2, ELEMENT)),
+    (Edit::Children(2, 1, 3), (2, 2, ELEMENT), (1, 5, ELEMENT)),
+    (Edit::Unwrap(2, 1, 3), (1, 4, ELEMENT), (1, 4, ELEMENT)),
+    (Edit::Unwrap(2, 1, 3), (2, 1, ELEMENT), (1, 4, ELEMENT)),
+    (Edit::Replace(1, 9, "abc😀"), (1, 3, TEXT), (9, 3, TEXT)),
+    (Edit::Replace(1, 9, "abc😀"), (1, 8, TEXT), (9, 5, TEXT)),
+    (Edit::Replace(1, 9, "abc😀"), (1, 4, TEXT), (9, 3, TEXT)),
+    (Edit::Replace(1, 9, "abc😀"), (2, 4, TEXT), (2, 4, TEXT)),
     (
-        Edit::Join(1, 4, 2),
-        [(1, 3, TEXT), (2, 3, TEXT)],
-        [(1, 3, TEXT), (1, 7, TEXT)],
-    ),
-    (
-        Edit::Join(1, 4, 2),
-        [(2, 0, TEXT), (2, u32::MAX, TEXT)],
-        [(1, 4, TEXT), (1, u32::MAX, TEXT)],
-    ),
-    (
-        Edit::Children(2, 1, 3),
-        [(1, 2, ELEMENT), (2, 2, ELEMENT)],
-        [(1, 2, ELEMENT), (1, 5, ELEMENT)],
-    ),
-    (
-        Edit::Unwrap(2, 1, 3),
-        [(1, 4, ELEMENT), (2, 1, ELEMENT)],
-        [(1, 4, ELEMENT), (1, 4, ELEMENT)],
-    ),
-    (
-        Edit::Replace(1, 9, "abc😀"),
-        [(1, 3, TEXT), (1, 8, TEXT)],
-        [(9, 3, TEXT), (9, 5, TEXT)],
-    ),
-    (
-        Edit::Replace(1, 9, "abc😀"),
-        [(1, 4, TEXT), (2, 4, TEXT)],
-        [(9, 3, TEXT), (2, 4, TEXT)],
+        Edit::MovePoints(1, (7, 2, ELEMENT)),
+        (1, 3, TEXT),
+        (7, 2, ELEMENT),
     ),
     (
         Edit::MovePoints(1, (7, 2, ELEMENT)),
-        [(1, 3, TEXT), (2, 3, TEXT)],
-        [(7, 2, ELEMENT), (2, 3, TEXT)],
+        (2, 3, TEXT),
+        (2, 3, TEXT),
     ),
 ];
+
+/// A point on a node that no edit touches.
+const STILL: Place = (5, 1, TEXT);
 
 fn point((key, offset, kind): Place) -> Point {
     Point {
@@ -180,12 +138,19 @@ fn selection(alloc: Global, index: u32) -> Result<Selection, Fail> {
     }
 }
 
+/// Whether an edit moves the anchor and the focus of a range so.
+fn moves(edit: Edit, before: [Place; 2], after: [Place; 2]) -> bool {
+    let mut selection = range(before);
+    make(edit, &mut selection);
+    selection.is_equal(&range(after))
+}
+
 #[test]
 fn an_edit_moves_the_points_of_a_range(rt: HostRuntime) {
     for (edit, before, after) in &MOVES {
-        let mut selection = range(*before);
-        make(*edit, &mut selection);
-        assert!(rt; selection.is_equal(&range(*after)), "{edit:?}");
+        let anchor = moves(*edit, [*before, STILL], [*after, STILL]);
+        let focus = moves(*edit, [STILL, *before], [STILL, *after]);
+        assert_eq!(rt; (anchor, focus), (true, true), "{edit:?} from {before:?}");
     }
 }
 
@@ -236,7 +201,5 @@ fn keys_kept(alloc: Global) -> Result<String, Fail> {
 
 #[test]
 fn keys_are_kept_in_order(rt: HostRuntime) -> Result<(), Fail> {
-    let text = keys_kept(rt.alloc())?;
-    assert_eq!(rt; text.as_str(), "[Key(2), Key(1)] [Key(2), Key(1)]");
-    Ok(())
+    expect(&keys_kept(rt.alloc())?, "[Key(2), Key(1)] [Key(2), Key(1)]")
 }

@@ -2,6 +2,7 @@ use lx_node::{
     Align, Direction, ElementFields, Extra, Fields, Key, Kind, Kinds, ListType, Mode, Node,
     TextFields, Txt,
 };
+use lx_told::expect;
 use std::alloc::Global;
 use std::test::Fail;
 
@@ -66,13 +67,11 @@ fn type_names(alloc: Global) -> Result<String, Fail> {
 
 #[test]
 fn the_types_are_those_of_documents(rt: HostRuntime) -> Result<(), Fail> {
-    let types = type_names(rt.alloc())?;
-    assert_eq!(rt;
-        types.as_str(),
+    expect(
+        &type_names(rt.alloc())?,
         "root paragraph heading quote list listitem link table tablerow tablecell text tab \
-         linebreak horizontalrule embed "
-    );
-    Ok(())
+         linebreak horizontalrule embed ",
+    )
 }
 
 fn element(alloc: Global, extra: Extra) -> Result<Fields, Fail> {
@@ -168,23 +167,11 @@ fn printed(alloc: Global, node: &Node) -> Result<String, Fail> {
     Ok(format!(in alloc; "{node:?}")?)
 }
 
-fn printed_copy(alloc: Global, node: &Node) -> Result<String, Fail> {
-    let copy = node.copy(alloc)?;
-    printed(alloc, &copy)
-}
-
-/// A node and its copy, as the derived text says them.
-fn both_printed(alloc: Global) -> Result<(String, String), Fail> {
-    let node = linked(alloc)?;
-    let copy = printed_copy(alloc, &node)?;
-    Ok((printed(alloc, &node)?, copy))
-}
-
 #[test]
 fn a_copy_prints_as_what_it_was_copied_from(rt: HostRuntime) -> Result<(), Fail> {
-    let (node, copy) = both_printed(rt.alloc())?;
-    assert_eq!(rt; copy.as_str(), node.as_str());
-    Ok(())
+    let node = linked(rt.alloc())?;
+    let copy = node.copy(rt.alloc())?;
+    expect(&printed(rt.alloc(), &copy)?, &printed(rt.alloc(), &node)?)
 }
 
 /// How many kinds a list has, and two of them by place.

@@ -1,5 +1,6 @@
 use lx_marks::Marks;
 use lx_node::{Key, NoMemory};
+use lx_told::expect;
 use std::alloc::Global;
 use std::test::Fail;
 
@@ -52,28 +53,30 @@ fn shown(alloc: Global, marks: &Marks) -> Result<String, Fail> {
     Ok(text)
 }
 
-fn marked_twice(alloc: Global) -> Result<String, Fail> {
+#[test]
+fn a_key_stands_where_it_was_first_marked(rt: HostRuntime) -> Result<(), Fail> {
     let elements = [(3, false), (0, true), (3, true), (0, false), (9, false)];
-    let marks = marks(alloc, &[7, 0, 4_294_967_295, 7], &elements)?;
-    shown(alloc, &marks)
+    let marks = marks(rt.alloc(), &[7, 0, 4_294_967_295, 7], &elements)?;
+    expect(&shown(rt.alloc(), &marks)?, "7 0 4294967295 and 3! 0! 9 ")
 }
 
-fn absorbed(alloc: Global) -> Result<String, Fail> {
-    let mut own = marks(alloc, &[1, 2], &[(1, false), (2, true), (3, false)])?;
-    let other = marks(alloc, &[3, 2, 4], &[(4, true), (2, false), (1, true)])?;
+#[test]
+fn what_is_absorbed_comes_behind(rt: HostRuntime) -> Result<(), Fail> {
+    let mut own = marks(rt.alloc(), &[1, 2], &[(1, false), (2, true), (3, false)])?;
+    let other = marks(rt.alloc(), &[3, 2, 4], &[(4, true), (2, false), (1, true)])?;
     own.absorb(&other)?;
-    shown(alloc, &own)
+    expect(&shown(rt.alloc(), &own)?, "1 2 3 4 and 1! 2! 3 4! ")
 }
 
-fn copied(alloc: Global) -> Result<String, Fail> {
-    let own = marks(alloc, &[2, 1], &[(2, true), (3, false)])?;
+#[test]
+fn a_copy_has_the_same_marks(rt: HostRuntime) -> Result<(), Fail> {
+    let own = marks(rt.alloc(), &[2, 1], &[(2, true), (3, false)])?;
     let copy = own.copy()?;
-    shown(alloc, &copy)
+    expect(&shown(rt.alloc(), &copy)?, "2 1 and 2! 3 ")
 }
 
 /// What is taken from marks of each kind, and what is left.
-fn taken(alloc: Global) -> Result<String, Fail> {
-    let mut marks = marks(alloc, &[7, 8], &[(3, true)])?;
+fn taken(alloc: Global, marks: &mut Marks) -> Result<String, Fail> {
     let leaves = marks.take_leaves()?;
     let before = marks.is_empty();
     let elements = marks.take_elements()?;
@@ -81,9 +84,15 @@ fn taken(alloc: Global) -> Result<String, Fail> {
     Ok(format!(in alloc; "{leaves:?} {before} {elements:?} {after}")?)
 }
 
+#[test]
+fn what_is_taken_is_gone(rt: HostRuntime) -> Result<(), Fail> {
+    let mut marks = marks(rt.alloc(), &[7, 8], &[(3, true)])?;
+    let text = taken(rt.alloc(), &mut marks)?;
+    expect(&text, "[Key(7), Key(8)] false [(Key(3), true)] true")
+}
+
 /// For each of some keys, whether it is a leaf's, and the flag of an element.
-fn looked_up(alloc: Global) -> Result<String, Fail> {
-    let marks = marks(alloc, &[7], &[(3, true), (9, false)])?;
+fn looked_up(alloc: Global, marks: &Marks) -> Result<String, Fail> {
     let mut text = String::new(alloc);
     for key in [7, 3, 9, 4] {
         let is_leaf = marks.has_leaf(Key(key));
@@ -94,42 +103,10 @@ fn looked_up(alloc: Global) -> Result<String, Fail> {
 }
 
 #[test]
-fn a_key_stands_where_it_was_first_marked(rt: HostRuntime) -> Result<(), Fail> {
-    let text = marked_twice(rt.alloc())?;
-    assert_eq!(rt; text.as_str(), "7 0 4294967295 and 3! 0! 9 ");
-    Ok(())
-}
-
-#[test]
-fn what_is_absorbed_comes_behind(rt: HostRuntime) -> Result<(), Fail> {
-    let text = absorbed(rt.alloc())?;
-    assert_eq!(rt; text.as_str(), "1 2 3 4 and 1! 2! 3 4! ");
-    Ok(())
-}
-
-#[test]
-fn a_copy_has_the_same_marks(rt: HostRuntime) -> Result<(), Fail> {
-    let text = copied(rt.alloc())?;
-    assert_eq!(rt; text.as_str(), "2 1 and 2! 3 ");
-    Ok(())
-}
-
-#[test]
-fn what_is_taken_is_gone(rt: HostRuntime) -> Result<(), Fail> {
-    let text = taken(rt.alloc())?;
-    assert_eq!(rt;
-        text.as_str(),
-        "[Key(7), Key(8)] false [(Key(3), true)] true"
-    );
-    Ok(())
-}
-
-#[test]
 fn keys_are_looked_up(rt: HostRuntime) -> Result<(), Fail> {
-    let text = looked_up(rt.alloc())?;
-    assert_eq!(rt;
-        text.as_str(),
-        "7 true None, 3 false Some(true), 9 false Some(false), 4 false None, "
-    );
-    Ok(())
+    let marks = marks(rt.alloc(), &[7], &[(3, true), (9, false)])?;
+    expect(
+        &looked_up(rt.alloc(), &marks)?,
+        "7 true None, 3 false Some(true), 9 false Some(false), 4 false None, ",
+    )
 }

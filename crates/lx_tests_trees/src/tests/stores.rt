@@ -1,14 +1,22 @@
 //! A store and its forks.
 
-use crate::making::lone;
+use crate::tests::making::insert;
+use lx_links::Links;
 use lx_node::{Fields, Key, Kind, NoMemory, Node, Txt};
 use lx_store::{Copies, Edit, Item, Store, Tally};
+use lx_told::expect;
 use std::alloc::Global;
 use std::test::Fail;
 
+/// An embed that stands nowhere, as links make it.
 fn embed(alloc: Global, source: &str) -> Result<Node, NoMemory> {
-    let fields = Fields::Embed(Txt::new(alloc, source)?);
-    Ok(lone(Kind::Embed, fields))
+    let source = Txt::new(alloc, source)?;
+    let mut links = Links::new(alloc)?;
+    insert(&mut links, 1, Kind::Embed, Fields::Embed(source))?;
+    match links.node(Key(1)) {
+        Some(node) => node.copy(alloc),
+        None => Err(NoMemory),
+    }
 }
 
 fn source(node: Option<&Node>) -> &str {
@@ -90,60 +98,17 @@ fn taken(
     Ok(String::from_str(alloc, source(node.as_ref()))?)
 }
 
-/// The sources under 0 and 1 of a store, which are taken.
-fn both_taken(alloc: Global, store: &mut Store<Node>, count: &mut Copies) -> Result<String, Fail> {
-    let zero = taken(alloc, store, 0, count)?;
-    let one = taken(alloc, store, 1, count)?;
-    Ok(format!(in alloc; "{} {}", zero.as_str(), one.as_str())?)
-}
-
-/// What a write to the fork and two to the store give back.
-fn both_written(
-    alloc: Global,
-    store: &mut Store<Node>,
-    fork: &mut Store<Node>,
-    count: &mut Copies,
-) -> Result<String, Fail> {
-    let old = fork_written(alloc, fork, count)?;
-    let taken = both_taken(alloc, store, count)?;
-    Ok(format!(in alloc; "{} {}", old.as_str(), taken.as_str())?)
-}
-
-/// The store and its fork.
-fn both_told(alloc: Global, store: &Store<Node>, fork: &Store<Node>) -> Result<String, Fail> {
-    let ours = told(alloc, store)?;
-    let theirs = told(alloc, fork)?;
-    Ok(format!(in alloc; "{}; {}", ours.as_str(), theirs.as_str())?)
-}
-
-/// A store and its fork after those writes, with what these gave back.
-fn told_writes(
-    alloc: Global,
-    store: &mut Store<Node>,
-    fork: &mut Store<Node>,
-    count: &mut Copies,
-) -> Result<String, Fail> {
-    let given = both_written(alloc, store, fork, count)?;
-    let both = both_told(alloc, store, fork)?;
-    Ok(format!(in alloc; "{}; {}", both.as_str(), given.as_str())?)
-}
-
-/// The store and its fork, after a write to each.
-fn written_apart(alloc: Global) -> Result<String, Fail> {
+#[test]
+fn a_fork_and_the_store_are_apart(rt: HostRuntime) -> Result<(), Fail> {
+    let alloc = rt.alloc();
     let mut count = Copies::new();
     let mut store = three(alloc, &mut count)?;
     let mut fork = store.fork(&mut count)?;
-    told_writes(alloc, &mut store, &mut fork, &mut count)
-}
-
-#[test]
-fn a_fork_and_the_store_are_apart(rt: HostRuntime) -> Result<(), Fail> {
-    let text = written_apart(rt.alloc())?;
-    assert_eq!(rt;
-        text.as_str(),
-        "2: none seven none last; 4: zero new more last; seven zero none"
-    );
-    Ok(())
+    expect(&fork_written(alloc, &mut fork, &mut count)?, "seven")?;
+    expect(&taken(alloc, &mut store, 0, &mut count)?, "zero")?;
+    expect(&taken(alloc, &mut store, 1, &mut count)?, "none")?;
+    expect(&told(alloc, &store)?, "2: none seven none last")?;
+    expect(&told(alloc, &fork)?, "4: zero new more last")
 }
 
 /// The first four keys, or fewer, under which two stores differ.
@@ -164,46 +129,35 @@ fn differences(
     Ok(keys)
 }
 
-/// Where a store of the keys 0 to 95 differs from its fork, which was written.
-fn differences_written(alloc: Global) -> Result<Vec<Key>, NoMemory> {
+/// The fork of a store of the keys 0 to 95, which is written.
+#[test]
+fn a_fork_differs_where_it_was_written(rt: HostRuntime) -> Result<(), Fail> {
+    let alloc = rt.alloc();
     let mut count = Copies::new();
     let store = filled(alloc, &mut count)?;
     let mut fork = store.fork(&mut count)?;
     fork_written(alloc, &mut fork, &mut count)?;
-    differences(alloc, &store, &fork)
-}
-
-#[test]
-fn a_fork_differs_where_it_was_written(rt: HostRuntime) -> Result<(), Fail> {
-    let keys = differences_written(rt.alloc())?;
+    let keys = differences(alloc, &store, &fork)?;
     assert_eq!(rt; keys.as_slice(), [Key(7), Key(33)].as_slice());
     Ok(())
 }
 
-/// Where a store differs from its fork, out of which the last key of all was taken.
-fn differences_far(alloc: Global) -> Result<Vec<Key>, NoMemory> {
-    let mut count = Copies::new();
-    let store = three(alloc, &mut count)?;
-    let mut fork = store.fork(&mut count)?;
-    let _taken = fork.take(Key(u32::MAX), &mut count)?;
-    differences(alloc, &store, &fork)
-}
-
+/// The last key of all, which is taken out of a fork.
 #[test]
 fn a_far_key_is_found(rt: HostRuntime) -> Result<(), Fail> {
-    let keys = differences_far(rt.alloc())?;
+    let mut count = Copies::new();
+    let store = three(rt.alloc(), &mut count)?;
+    let mut fork = store.fork(&mut count)?;
+    fork.take(Key(u32::MAX), &mut count)?;
+    let keys = differences(rt.alloc(), &store, &fork)?;
     assert_eq!(rt; keys.as_slice(), [Key(u32::MAX)].as_slice());
     Ok(())
 }
 
-fn keys_of_three(alloc: Global) -> Result<Vec<Key>, NoMemory> {
-    let store = three(alloc, &mut Copies::new())?;
-    store.keys()
-}
-
 #[test]
 fn keys_ascend(rt: HostRuntime) -> Result<(), Fail> {
-    let keys = keys_of_three(rt.alloc())?;
+    let store = three(rt.alloc(), &mut Copies::new())?;
+    let keys = store.keys()?;
     assert_eq!(rt; keys.as_slice(), [Key(0), Key(7), Key(u32::MAX)].as_slice());
     Ok(())
 }
@@ -238,25 +192,17 @@ fn differs_at(store: &Store<Node>, key: u32, name: &str) -> bool {
     before && has(store, key, key, name) && (key >= 95 || has(store, key + 1, 95, "old"))
 }
 
-fn write_both(
-    alloc: Global,
-    store: &mut Store<Node>,
-    fork: &mut Store<Node>,
-    count: &mut Copies,
-) -> Result<(), NoMemory> {
-    add(alloc, fork, 33, "new", count)?;
-    store.take(Key(64), count)?;
-    Ok(())
-}
-
-/// Whether a write to a fork and one to the store leave the other as it was, where they share pages.
-fn writes_stay_apart(alloc: Global) -> Result<bool, NoMemory> {
+/// A write to a fork and one to the store leave the other as it was, where they share pages.
+#[test]
+fn shared_pages_are_copied_before_a_write(rt: HostRuntime) -> Result<(), Fail> {
     let mut count = Copies::new();
-    let mut store = filled(alloc, &mut count)?;
+    let mut store = filled(rt.alloc(), &mut count)?;
     let mut fork = store.fork(&mut count)?;
-    write_both(alloc, &mut store, &mut fork, &mut count)?;
-    let apart = differs_at(&fork, 33, "new") && differs_at(&store, 64, "none");
-    Ok(apart && fork.len() == 96 && store.len() == 95)
+    add(rt.alloc(), &mut fork, 33, "new", &mut count)?;
+    store.take(Key(64), &mut count)?;
+    assert!(rt; differs_at(&fork, 33, "new") && differs_at(&store, 64, "none"));
+    assert_eq!(rt; (fork.len(), store.len()), (96, 95));
+    Ok(())
 }
 
 /// An edit that gives an embed another source.
@@ -288,42 +234,22 @@ fn rename(
     store.change(Key(key), Renamed(name), count)
 }
 
-/// Edits a shared item, then the same one, which is shared no more, and one that isn't there. It tells whether each
-/// was found and whether the latter two copied nothing.
-fn rename_twice(
-    alloc: Global,
-    store: &mut Store<Node>,
-    count: &mut Copies,
-) -> Result<bool, NoMemory> {
-    let found = rename(alloc, store, 33, "new", count)?;
-    let copied = count.total();
-    let again = rename(alloc, store, 33, "newer", count)?;
-    let absent = rename(alloc, store, 96, "new", count)?;
-    Ok(found && again && !absent && count.total() == copied)
-}
-
-/// Whether an edit of an item that a fork shares leaves the fork as it was, and one of an item that none shares
-/// copies nothing.
-fn edits_stay_apart(alloc: Global) -> Result<bool, NoMemory> {
+/// An item that a fork shares is edited, then the same one, which is shared no more, and one that isn't there. The
+/// latter two copy nothing, and the fork stays as it was.
+#[test]
+fn edits_are_made_in_place(rt: HostRuntime) -> Result<(), Fail> {
+    let alloc = rt.alloc();
     let mut count = Copies::new();
     let mut store = filled(alloc, &mut count)?;
     let fork = store.fork(&mut count)?;
-    let told = rename_twice(alloc, &mut store, &mut count)?;
-    let edited = differs_at(&store, 33, "newer") && has(&store, 96, 96, "none");
-    Ok(told && edited && has(&fork, 0, 95, "old") && store.len() == 96)
-}
-
-#[test]
-fn edits_are_made_in_place(rt: HostRuntime) -> Result<(), Fail> {
-    let apart = edits_stay_apart(rt.alloc())?;
-    assert!(rt; apart);
-    Ok(())
-}
-
-#[test]
-fn shared_pages_are_copied_before_a_write(rt: HostRuntime) -> Result<(), Fail> {
-    let apart = writes_stay_apart(rt.alloc())?;
-    assert!(rt; apart);
+    assert!(rt; rename(alloc, &mut store, 33, "new", &mut count)?);
+    let copied = count.total();
+    assert!(rt; rename(alloc, &mut store, 33, "newer", &mut count)?);
+    assert!(rt; !rename(alloc, &mut store, 96, "new", &mut count)?);
+    assert_eq!(rt; count.total(), copied);
+    assert!(rt; differs_at(&store, 33, "newer") && has(&store, 96, 96, "none"));
+    assert!(rt; has(&fork, 0, 95, "old"));
+    assert_eq!(rt; store.len(), 96);
     Ok(())
 }
 
@@ -348,7 +274,5 @@ fn twinned(alloc: Global) -> Result<String, Fail> {
 
 #[test]
 fn a_twin_is_counted(rt: HostRuntime) -> Result<(), Fail> {
-    let text = twinned(rt.alloc())?;
-    assert_eq!(rt; text.as_str(), "one 1 2");
-    Ok(())
+    expect(&twinned(rt.alloc())?, "one 1 2")
 }

@@ -1,0 +1,5 @@
+mod marks;
+mod nodes;
+mod patches;
+mod selections;
+mod texts;

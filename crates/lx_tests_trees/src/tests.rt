@@ -1,0 +1,5 @@
+mod hosts;
+mod links;
+mod making;
+mod shapes;
+mod stores;
