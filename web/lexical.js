@@ -94,7 +94,7 @@ export class Lexical {
    * @internal
    * @param {Core} core
    * @param {Channel} channel
-   * @param {Options} [options]
+   * @param {Options} options
    */
   constructor(core, channel, { delay = 1000, view = false } = {}) {
     if (!Number.isSafeInteger(delay) || delay < 0) throw new RangeError('the delay is a whole number of milliseconds from 0');

@@ -161,12 +161,17 @@ export interface ElementFields {
 
 export type NodeType = keyof FieldsByType;
 
-/** Fields that stay as a node was made. */
-type MadeOnce = 'tag' | 'listType' | 'value';
+type FieldName = PropertyOf<FieldsByType[NodeType]>;
+type Field<T extends NodeType, F> = F extends keyof FieldsByType[T] ? FieldsByType[T][F] : undefined;
 
 /** Null stands for what is so by default. An item's `value` comes from its place. */
 export type NewFields<T extends NodeType> = {
-  [F in keyof FieldsByType[T]]: F extends 'value' ? null : FieldsByType[T][F] | null;
+  [F in FieldName]?: F extends keyof FieldsByType[T] ? (F extends 'value' ? null : Field<T, F> | null) : undefined;
+};
+
+/** What a rule may set: `tag`, `listType` and `value` stay as they are. */
+export type RuleFields<T extends NodeType> = {
+  [F in FieldName]?: F extends 'tag' | 'listType' | 'value' ? undefined : Field<T, F>;
 };
 
 /** What a step `set` may write. Which of these a node has, its type says: another one is refused as `WrongKind`. */
@@ -224,7 +229,7 @@ export type Edit<T extends NodeType> = OneOf<
   | { after: NewNode }
   | { child: NewNode }
   | { mergenext: true }
-  | { set: Omit<FieldsByType[T], MadeOnce> }
+  | { set: RuleFields<T> }
   | (T extends 'text' ? { add: string } : never)
 >;
 

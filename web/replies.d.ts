@@ -53,8 +53,8 @@ export interface Details {
   /** the offset, the index or the key */
   BadPlace: number;
   NoSelection: 'none' | 'range' | 'nodes' | 'cells';
-  /** the point */
-  SelectionLost: ReplyPoint;
+  /** the point; or the key, of cells that were selected */
+  SelectionLost: ReplyPoint | number;
   NoRest: number;
   StepLimit: number;
   DispatchDepth: number;

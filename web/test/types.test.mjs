@@ -1,0 +1,113 @@
+// The types, by the compiler of TypeScript, if it is there: what is taken and answered has them, and what is wrong hasn't.
+import assert from 'node:assert/strict';
+import { spawnSync } from 'node:child_process';
+import { readFileSync, writeFileSync } from 'node:fs';
+import { join } from 'node:path';
+import test from 'node:test';
+import { optionsOf } from '../words.js';
+import { examples, linesOf, newCore, newFolder, web } from './helper.mjs';
+import { storedSessions } from './rows.mjs';
+
+const LONGEST = 20_000; // bytes of a line or a reply: longer ones would show nothing new
+const skip = spawnSync('tsc', ['--version']).status === 0 ? false : 'there is no tsc';
+const options = ['--strict', '--noEmit', '--target', 'es2022', '--module', 'es2022', '--moduleResolution', 'node', '--lib', 'es2022,dom,dom.iterable'];
+
+/** What the compiler says of files: nothing, if all is right. */
+function compilerSays(...words) {
+  const { stdout } = spawnSync('tsc', [...options, ...words], { maxBuffer: 2 ** 30 });
+  return stdout.toString().split('\n').filter(Boolean);
+}
+
+/** The same of one text, each complaint with the line that it is about. */
+function compilerSaysOf(text) {
+  const file = join(newFolder(), 'uses.ts');
+  writeFileSync(file, text);
+  const lines = text.split('\n');
+  return compilerSays(file).map(said => `${said} -- ${lines[/\((\d+),/.exec(said)?.[1] - 1]?.slice(0, 500)}`);
+}
+
+const head = `import type { Line, Reply } from '${web}lexical.js';\n`;
+const isRefusedForForm = reply => /^\{("handled":false,)?"refused":\{"cause":"Bad(Line|Command)",.*"step":null\}\}$/.test(reply);
+
+/** A field that no type has is refused as WrongKind, so it is in the grammar, and in no type. */
+const setsNoField = /"fields":\{"z":/;
+
+/**
+ * The lines that the core takes, and all replies: one of those that differ in numbers and letters typed alone. Both are written
+ * anew, since members may come twice in a line.
+ */
+async function linesAndReplies() {
+  const core = await newCore();
+  const lines = new Map(), replies = new Map();
+  const add = (map, json) => {
+    if (json.length <= LONGEST) map.set(json.replace(/(?<![a-z])\d+/g, '0').replace(/[e ]{2,}/g, 'e'), JSON.stringify(JSON.parse(json)));
+  };
+  const sessions = [...examples.map(({ input }) => ({ words: [], input })), ...storedSessions()];
+  for (const { words, input } of sessions) {
+    const taken = optionsOf(words);
+    if (taken === null || 'needs' in taken) continue;
+    const editor = core.open(taken);
+    for (const bytes of linesOf(Buffer.from(input, 'latin1'))) {
+      const reply = Buffer.from(editor.bytes(bytes)).toString();
+      add(replies, reply);
+      if (!isRefusedForForm(reply) && !setsNoField.test(bytes.toString())) add(lines, bytes.toString());
+    }
+    editor.close();
+  }
+  return { lines: [...lines.values()], replies: [...replies.values()] };
+}
+
+test('lines that are taken and replies have their types', { skip }, async () => {
+  const { lines, replies } = await linesAndReplies();
+  const typed = (type, values) => values.map((value, index) => `export const ${type}${index}: ${type} = ${value};`);
+  assert.deepEqual(compilerSaysOf(head + [...typed('Line', lines), ...typed('Reply', replies)].join('\n')), []);
+  assert.ok(lines.length > 500 && replies.length > 500, `${lines.length} lines, ${replies.length} replies`);
+});
+
+test('wrong lines have no type', { skip }, () => {
+  const wrong = [
+    '{}',
+    '{ show: "everything" }',
+    '{ show: "state", update: [] }',
+    '{ update: { append: "a" } }',
+    '{ update: [], id: 7 }',
+    '{ update: [{ insert: "a" }] }',
+    '{ update: [{ append: 1 }] }',
+    '{ update: [{ append: "a", as: "x" }] }',
+    '{ update: [{ remove: 1, mark: 2 }] }',
+    '{ update: [{ do: "sign" }] }',
+    '{ update: [{ new: "root" }] }',
+    '{ update: [{ new: "paragraph", as: null }] }',
+    '{ update: [{ new: "paragraph", fields: { text: "a" } }] }',
+    '{ update: [{ new: "text", fields: { format: "left" } }] }',
+    '{ update: [{ new: "listitem", fields: { value: 3 } }] }',
+    '{ update: [{ new: "linebreak", fields: { text: "a" } }] }',
+    '{ update: [{ set: 1, fields: { bold: true } }] }',
+    '{ update: [{ select: { anchor: [2, 0], focus: [2, 0] } }] }',
+    '{ update: [{ select: { anchor: [2, 0, "text"], focus: [2, 0, "text"], kind: "range" } }] }',
+    '{ update: [{ later: [{ append: 1 }] }] }',
+    '{ dispatch: "insert-text", payload: 1 }',
+    '{ dispatch: "undo", defer: true }',
+    '{ flush: false }',
+    '{ at: "now", show: "view" }',
+    '{ clear: "all" }',
+    '{ rule: { on: "text", if: [{ contains: "a", shorter: 3 }], do: [] } }',
+    '{ rule: { on: "paragraph", if: [], do: [{ add: "!" }] } }',
+    '{ rule: { on: "heading", if: [], do: [{ set: { tag: "h2" } }] } }',
+    '{ rule: { on: "text", if: [], do: [{ replace: { type: "paragraph", fields: { tag: "h1" } } }] } }',
+    '{ listener: { on: "sign", priority: 5, steps: [], handled: true } }',
+    '{ listener: { on: "sign", priority: 0, steps: [] } }',
+    '{ hub: "attach" }',
+  ];
+  const text = head + wrong.map((line, index) => `// @ts-expect-error\nexport const wrong${index}: Line = ${line};`).join('\n');
+  assert.deepEqual(compilerSaysOf(text), []);
+});
+
+test('replies tell by their members what they are', { skip }, () => {
+  assert.deepEqual(compilerSaysOf(readFileSync(join(web, 'test', 'uses.ts'), 'utf8').replace('../lexical.js', `${web}lexical.js`)), []);
+});
+
+test('the package has the types that it tells', { skip }, () => {
+  const files = [join(web, 'test', 'node.d.ts'), ...['lexical.js', 'cli.mjs'].map(file => join(web, file))];
+  assert.deepEqual(compilerSays('--allowJs', '--checkJs', ...files), []);
+});
