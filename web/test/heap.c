@@ -24,8 +24,8 @@ static unsigned long long grow(unsigned long long more) {
 #include "../build/heap.c"
 
 #define BLOCKS 400
-#define ROUNDS 200
-#define STEPS 20000
+#define ROUNDS 60
+#define STEPS 10000
 static struct {
     u8 *at;
     u64 size;
