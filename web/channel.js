@@ -148,7 +148,7 @@ export class Channel {
    */
   #grow(buffer, least) {
     if (least <= buffer.size) return;
-    const { at, size } = this.#buffer(2 ** Math.ceil(Math.log2(least)));
+    const { at, size } = this.#buffer(1 << (32 - Math.clz32(least - 1)));
     this.#calls.give(buffer.at);
     buffer.at = at;
     buffer.size = size;

@@ -8,7 +8,7 @@ export * from './replies.js';
 export type Source = string | URL | Response | BufferSource | WebAssembly.Module;
 
 export interface Options {
-  /** Typing goes on in one entry of the history while less than so many milliseconds lie between two commits: 1000 if left out. */
+  /** Typing that goes on within so many milliseconds is one entry of the history: 1000 if left out. */
   delay?: number;
   /** Whether replies to commits include the view, as HTML. */
   view?: boolean;

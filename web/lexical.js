@@ -97,7 +97,7 @@ export class Lexical {
    * @param {Options} options
    */
   constructor(core, channel, { delay = 1000, view = false } = {}) {
-    if (!Number.isSafeInteger(delay) || delay < 0) throw new RangeError('the delay is a whole number of milliseconds from 0');
+    if (!Number.isSafeInteger(delay) || delay < 0) throw new RangeError('the delay is a number of milliseconds from 0');
     if (typeof view !== 'boolean') throw new TypeError('view is true or false');
     this.#core = core;
     this.#channel = channel;
@@ -197,5 +197,6 @@ function wrongLine(what, cause) {
  * @returns {string}
  */
 function nameOf(value) {
-  return typeof value === 'object' && value !== null ? Object.prototype.toString.call(value).slice(8, -1) : String(value === null ? null : typeof value);
+  if (value === null) return 'null';
+  return typeof value === 'object' ? Object.prototype.toString.call(value).slice('[object '.length, -1) : typeof value;
 }

@@ -6,7 +6,7 @@ export type Line = OneOf<
   UpdateLine | FlushLine | DispatchLine | RuleLine | ListenerLine | LoadLine | ShowLine | ClearLine
 >;
 
-/** A member of a union without the others' properties, so that two forms can't be mixed, and each property may be asked for. */
+/** Members of a union without each other's properties: so forms can't be mixed, and each property may be asked for. */
 export type OneOf<U, P extends PropertyKey = PropertyOf<U>> = U extends unknown
   ? U & { [K in Exclude<P, keyof U>]?: undefined }
   : never;
@@ -235,3 +235,5 @@ export type Edit<T extends NodeType> = OneOf<
 
 /** What is done at nodes of a type for which all conditions hold, until nothing is left to do. */
 export type Rule = { [T in NodeType]: { on: T; if: Condition[]; do: Edit<T>[] } }[NodeType];
+
+export {}; // so that what isn't exported above stays in this file

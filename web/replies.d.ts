@@ -88,12 +88,15 @@ export type ReplySelection =
 
 /** A change of a client's tree of elements, its hosts, of which host 0 is there from the start. */
 export type Operation =
-  | [name: 'create', id: number, key: number, tag: string, attributes: Record<string, string>, text: string | null, ending: boolean]
+  | [name: 'create', id: number, key: number, tag: string, attributes: Attributes, text: string | null, ending: boolean]
   | [name: 'place', parent: number, child: number, before: number | null]
   | [name: 'drop', id: number]
   | [name: 'text', id: number, text: string]
   | [name: 'attr', id: number, attribute: string, value: string | null]
   | [name: 'break', id: number, ending: boolean];
+
+/** The attributes of a new host: their names and values. */
+export type Attributes = Record<string, string>;
 
 /** A document to store, which a line `load` takes. */
 export interface Document {
@@ -125,8 +128,16 @@ export type DocumentNode =
   | (Element & { type: 'list'; listType: ListType; start: number; tag: 'ul' | 'ol' })
   | (Element & { type: 'listitem'; value: number; checked?: boolean })
   | (Element & { type: 'link'; url: string; rel: string | null; target: string | null; title: string | null })
-  | (Element & { type: 'tablecell'; headerState: number; colSpan: number; rowSpan: number; backgroundColor: string | null })
+  | (Element & {
+    type: 'tablecell';
+    headerState: number;
+    colSpan: number;
+    rowSpan: number;
+    backgroundColor: string | null;
+  })
   | { type: 'text'; text: string; format: number; style: string; detail: number; mode: TextMode; version: 1 }
   | { type: 'tab'; text: '\t'; format: number; style: string; detail: 2; mode: 'normal'; version: 1 }
   | { type: 'linebreak' | 'horizontalrule'; version: 1 }
   | { type: 'embed'; src: string; version: 1 };
+
+export {}; // so that what isn't exported above stays in this file

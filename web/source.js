@@ -11,7 +11,8 @@ const inNode = typeof process === 'object' && typeof process.versions?.node === 
  */
 export async function compiled(source = new URL('./lexical.wasm', import.meta.url)) {
   if (source instanceof WebAssembly.Module) return source;
-  if (source instanceof ArrayBuffer || ArrayBuffer.isView(source)) return WebAssembly.compile(/** @type {BufferSource} */ (source));
+  if (source instanceof ArrayBuffer) return WebAssembly.compile(source);
+  if (ArrayBuffer.isView(source)) return WebAssembly.compile(/** @type {Uint8Array} */ (source));
   if (typeof Response === 'function' && source instanceof Response) return compiledFrom(source);
   if (typeof source !== 'string' && !(source instanceof URL)) {
     throw new TypeError('a module comes from a URL, a path, a response, bytes or a WebAssembly.Module');
@@ -48,6 +49,6 @@ async function bytesOf(file) {
  */
 async function compiledFrom(response) {
   if (!response.ok) throw new Error(`the module can't be fetched from ${response.url}: status ${response.status}`);
-  const comesAsWasm = response.headers.get('content-type')?.startsWith('application/wasm'); // else it isn't compiled as it comes
-  return comesAsWasm ? WebAssembly.compileStreaming(response) : WebAssembly.compile(await response.arrayBuffer());
+  const isWasm = response.headers.get('content-type')?.startsWith('application/wasm'); // else it can't be compiled as it comes
+  return isWasm ? WebAssembly.compileStreaming(response) : WebAssembly.compile(await response.arrayBuffer());
 }

@@ -25,7 +25,7 @@ test('a closed editor', async () => {
   const editor = core.open(), other = core.open();
   editor.close();
   editor.close();
-  for (const act of [() => editor.line({ show: 'view' }), () => editor.text('{}'), () => editor.bytes(new Uint8Array(0))]) {
+  for (const act of [() => editor.line({ show: 'view' }), () => editor.text('{}'), () => editor.bytes(Buffer.from('{}'))]) {
     assert.equal(codeOf(act), 'closed');
   }
   assert.equal(other.line(append('a')).commit, 1); // and a new one, which may have the place of the closed one
@@ -73,9 +73,9 @@ test('a line of as many bytes as there may be, and one more', async () => {
 
 test('options that are none', async () => {
   const core = await newCore();
-  for (const delay of [-1, 0.5, NaN, Infinity, 2 ** 53, '5', null]) assert.throws(() => core.open({ delay }), RangeError, String(delay));
-  for (const view of [1, 'yes', null]) assert.throws(() => core.open({ view }), TypeError, String(view));
-  for (const delay of [0, 86_400_000, Number.MAX_SAFE_INTEGER]) assert.equal(core.open({ delay }).line(append('a')).commit, 1);
+  for (const delay of [-1, 0.5, NaN, Infinity, 2 ** 53, '5', null]) assert.throws(() => core.open({ delay }), RangeError);
+  for (const view of [1, 'yes', null]) assert.throws(() => core.open({ view }), TypeError);
+  for (const delay of [0, 86_400_000, 2 ** 53 - 1]) assert.equal(core.open({ delay }).line(append('a')).commit, 1);
 });
 
 test('the delay of the history', async () => {
@@ -94,7 +94,7 @@ test('halves of surrogate pairs, and bytes that are not UTF-8', async () => {
   assert.equal(editor.line(append('\ud800!')).refused.cause, 'BadLine'); // JSON.stringify escapes it
   const bytes = Buffer.from('{"update":[{"append":"\u0080"}]}', 'latin1');
   assert.equal(JSON.parse(Buffer.from(editor.bytes(bytes)).toString()).refused.cause, 'BadLine');
-  assert.equal(JSON.parse(editor.text('\ufeff{"show":"view"}')).refused.cause, 'BadLine'); // a byte order mark is no white space
+  assert.match(editor.text('\ufeff{"show":"view"}'), /BadLine/); // a byte order mark is no white space
 });
 
 test('long replies, which are read in pieces, and short ones behind them', async () => {
@@ -103,7 +103,8 @@ test('long replies, which are read in pieces, and short ones behind them', async
     const { ops, view } = editor.line(append(text));
     assert.equal(ops.find(([name, , , tag]) => name === 'create' && tag === 'span')[5], text);
     assert.ok(view.includes(text));
-    assert.equal(Buffer.from(editor.bytes(Buffer.from('{"show":"view"}'))).toString(), `{"view":${JSON.stringify(view)}}`);
+    const bytes = editor.bytes(Buffer.from('{"show":"view"}'));
+    assert.equal(Buffer.from(bytes).toString(), JSON.stringify({ view }));
     editor.line({ update: [{ remove: ops[0][2] }] });
   }
 });
@@ -122,9 +123,10 @@ test('a module that stops, by an instance whose call throws as a trap does', asy
   const editor = core.open(), other = core.open();
   assert.equal(editor.line(append('a')).commit, 1);
   stops = true;
-  assert.throws(() => editor.line(append('b')), error => error.code === 'broken' && error.cause instanceof WebAssembly.RuntimeError);
+  assert.throws(() => editor.line(append('b')), ({ code, cause }) => code === 'broken' && cause instanceof WebAssembly.RuntimeError);
   stops = false; // the module would go on, but nothing asks it to
-  for (const act of [() => editor.line(append('c')), () => other.text('{}'), () => other.bytes(Buffer.from('{}')), () => core.open()]) {
+  const bytes = Buffer.from('{}');
+  for (const act of [() => editor.line(append('c')), () => other.text('{}'), () => other.bytes(bytes), () => core.open()]) {
     assert.equal(codeOf(act), 'broken');
   }
   editor.close(); // which is lost already
@@ -135,7 +137,9 @@ test('a module that really stops, by a call with a wild address behind the back 
   const core = new Core(instance);
   const editor = core.open(), other = core.open();
   assert.throws(() => instance.exports.lx_live_line(0xfffffff0, 0, 0, 0, 0, 0xfffffff0), WebAssembly.RuntimeError);
-  for (const act of [() => editor.line(append('a')), () => other.text('{}'), () => core.open()]) assert.equal(codeOf(act), 'broken');
+  for (const act of [() => editor.line(append('a')), () => other.text('{}'), () => core.open()]) {
+    assert.equal(codeOf(act), 'broken');
+  }
 });
 
 test('an editor in a module of its own', async () => {

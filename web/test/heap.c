@@ -1,4 +1,4 @@
-/* Random calls of build/heap.c over an arena that stands for the module's memory: test/run compiles and runs it.
+/* Random calls of build/heap.c, over an arena that stands for the memory: test/run compiles and runs them.
  * Each block is aligned, lies in the memory, keeps its bytes and overlaps no other. What is asked after everything was given
  * back is there. */
 #include <stdint.h>

@@ -46,21 +46,23 @@ export function newFolder() {
 export function packedProgram() {
   const folder = newFolder();
   const { files } = JSON.parse(readFileSync(join(web, 'package.json'), 'utf8'));
-  for (const file of ['package.json', ...files]) cpSync(file === 'lexical.wasm' ? modulePath : join(web, file), join(folder, file));
+  for (const file of ['package.json', ...files]) {
+    cpSync(file === 'lexical.wasm' ? modulePath : join(web, file), join(folder, file));
+  }
   return join(folder, 'cli.mjs');
 }
 
 /** A run of the program in node. */
 export function runProgram(program, words, input, stdio = 'pipe') {
-  const { status, stdout, stderr } = spawnSync(process.execPath, [program, ...words], { input, stdio, maxBuffer: 2 ** 30 });
-  return { status, stdout, stderr: stderr.toString() };
+  const run = spawnSync(process.execPath, [program, ...words], { input, stdio, maxBuffer: 2 ** 30 });
+  return { status: run.status, stdout: run.stdout, stderr: run.stderr.toString() };
 }
 
 /** Some letters. */
 export const letters = count => 'abcdefghij'.repeat(Math.ceil(count / 10)).slice(0, count);
 
 /** All that an editor tells of itself. */
-export const stateOf = editor => ['state', 'view', 'selection', 'history'].map(what => editor.text(`{"show":"${what}"}`)).join('\n');
+export const stateOf = editor => ['state', 'view', 'selection', 'history'].map(show => editor.text(JSON.stringify({ show }))).join();
 
 /** The code of the error that an act throws, or null. */
 export function codeOf(act) {

@@ -11,7 +11,7 @@ const documentOf = paragraphs => ({
   load: { root: { children: Array(paragraphs).fill({ type: 'paragraph', children: [{ type: 'text', text: 'word' }] }) } },
 });
 
-/** Grows a document until memory is wanting 30 times. What is answered has to be what an editor with ample memory answers. */
+/** Grows a document until memory is wanting 30 times. What is answered is what an editor with ample memory answers. */
 async function fill(pages, grow) {
   const core = await newCore(bounded(pages));
   const editor = core.open(), other = core.open(), twin = (await newCore()).open();
@@ -21,16 +21,17 @@ async function fill(pages, grow) {
   const send = line => {
     const text = JSON.stringify(line);
     let reply = null;
-    if (codeOf(() => { reply = editor.text(text); }) === null) {
+    const code = codeOf(() => { reply = editor.text(text); });
+    if (code === null) {
       assert.equal(reply, twin.text(text));
       answered += 1;
     } else {
-      assert.equal(codeOf(() => editor.text(text)), 'memory'); // asked again, as nothing was done
+      assert.equal(code, 'memory');
       wanting += 1;
     }
   };
-  for (let i = 0; wanting < 30; i += 1) for (const line of [grow(i), { show: 'history' }, { show: 'selection' }]) send(line);
-  for (const line of [{ dispatch: 'undo' }, { clear: 'history' }, append('b'), { show: 'view' }, { show: 'state' }]) send(line);
+  for (let i = 0; wanting < 30; i += 1) [grow(i), { show: 'history' }, { show: 'selection' }].forEach(send);
+  [{ dispatch: 'undo' }, { clear: 'history' }, append('b'), { show: 'view' }, { show: 'state' }].forEach(send);
   assert.ok(core.size <= pages * PAGE);
   assert.ok(answered > 30, `${answered} lines were answered`);
   editor.close();
@@ -41,19 +42,41 @@ async function fill(pages, grow) {
 test('memory that is wanting for texts', () => fill(64, () => ({ ...append(letters(2000)), tags: ['history-push'] })));
 test('memory that is wanting for loads', () => fill(64, i => documentOf(100 + 100 * i % 6000)));
 test('memory that is wanting for long lines', () => fill(96, i => append(letters(1000 * i))));
-test('memory that is wanting for many steps', () => fill(128, i => ({ update: Array(50).fill({ append: letters(100 + i) }) })));
+test('memory that is wanting for steps', () => fill(128, i => ({ update: Array(50).fill({ append: letters(100 + i) }) })));
+
+test('a line for which memory is wanting leaves all as it was', async () => {
+  const core = await newCore(bounded(64));
+  const editor = core.open(), other = core.open();
+  const start = { update: [{ append: 'a' }, { select: { anchor: [2, 1, 'text'], focus: [2, 1, 'text'] } }] };
+  for (const one of [editor, other]) one.line(start);
+  const [before, others] = [stateOf(editor), stateOf(other)];
+  for (let i = 0; i < 20; i += 1) {
+    assert.equal(codeOf(() => editor.line(append(letters(1_000_000)))), 'memory');
+    assert.equal(codeOf(() => editor.line(documentOf(8000))), 'memory');
+    assert.equal(stateOf(editor), before);
+    assert.equal(stateOf(other), others);
+  }
+  assert.equal(editor.line({ dispatch: 'insert-text', payload: 'b' }).commit, 2);
+  assert.equal(editor.line({ defer: true, update: [{ append: 'c' }] }).gathered, 1);
+  assert.equal(codeOf(() => editor.line(append(letters(1_000_000)))), 'memory');
+  assert.ok([true, undefined].includes(editor.line({ flush: true }).idle)); // what waited may be dropped
+});
 
 test('memory that is wanting for editors', async () => {
   const core = await newCore(bounded(48));
   const editors = [];
-  for (let code = null; code === null; code = codeOf(() => editors.push(core.open()))) editors.at(-1)?.line({ show: 'view' });
+  const oneMore = () => {
+    editors.push(core.open());
+    editors.at(-1).line({ show: 'view' });
+  };
+  while (codeOf(oneMore) === null);
   assert.ok(editors.length > 10);
-  assert.equal(codeOf(() => core.open()), 'memory');
+  assert.equal(codeOf(oneMore), 'memory');
   editors.pop().close();
   assert.equal(core.open().line({ show: 'view' }).view, '<div></div>');
 });
 
-/** A core whose own buffers can't grow once it has begun, though the editors' memory can: by an instance with another `lx_take`. */
+/** A core whose buffers can't grow while `room` isn't there, though its editors can: by an instance with another `lx_take`. */
 async function withoutRoom() {
   const { instance } = await WebAssembly.instantiate(moduleBytes, {});
   const room = { isThere: true };
@@ -108,10 +131,10 @@ test('typing and deleting takes no more and more memory', async () => {
   editor.line({ update: [{ append: '' }, { select: { anchor: [1, 0, 'element'], focus: [1, 0, 'element'] } }] });
   let early = 0;
   for (let i = 1; i <= 10_000; i += 1) {
-    const isTyped = i % 2 === 1;
-    const command = isTyped ? { dispatch: 'insert-text', payload: 'abcdefghij '[i % 11] } : { dispatch: 'delete-character', payload: 'back' };
-    assert.ok(editor.line({ ...command, at: i * 100 }).commit);
-    if (i === 1000) early = core.size;
+    const typed = { dispatch: 'insert-text', payload: 'abcdefghij '[i % 11] };
+    const deleted = { dispatch: 'delete-character', payload: 'back' };
+    assert.ok(editor.line({ ...(i % 2 === 1 ? typed : deleted), at: i * 100 }).commit);
+    if (i === 5000) early = core.size; // the history has long been full
   }
   assert.equal(core.size, early);
 });
@@ -142,5 +165,5 @@ test('one huge line, and one long reply, hold no memory for ever', async () => {
     editor.line({ clear: 'history' });
     sizes.push(core.size);
   }
-  assert.ok(sizes.at(-1) - sizes[1] < 4_000_000, sizes.join(', ')); // of which a text of each round is a part
+  assert.equal(sizes.at(-1), sizes[1], sizes.join(', '));
 });

@@ -6,7 +6,7 @@ import { top } from './helper.mjs';
 const LONGEST = 4096; // bytes of a reply that is stored whole
 const SHOWN = 60; // bytes of a longer one, which are stored with its length
 
-/** The parts of a stored file, by the lines `=== NAME` before them: names, and the bytes behind. Bytes may be no UTF-8. */
+/** The parts of a stored file, by the lines `=== NAME` before them. Not all bytes are UTF-8, so strings have one a unit. */
 function partsOf(file) {
   const text = readFileSync(join(top, 'crates', 'lx_rows', file), 'latin1');
   return text.split(/(?<![^\n])=== /).slice(1).map(part => {
@@ -15,7 +15,7 @@ function partsOf(file) {
   });
 }
 
-/** The sessions: `words`, `input` and `replies` of each, and whether the last reply alone is stored. Strings have a byte a unit. */
+/** The sessions: `words`, `input` and `replies` of each, and whether the last reply alone is stored. */
 export function storedSessions() {
   const replies = partsOf('stdout');
   return partsOf('stdin').map(({ name, body }, index) => {
@@ -45,16 +45,18 @@ function sent(line) {
 const load = children => `{"load":{"root":{"children":[${children}]}}}\n`;
 const listOf = (count, text) => Array(count).fill(text).join(',');
 const paragraph = '{"type":"paragraph"}';
+const text = '{"type":"text","text":"one of many texts, "}';
+const deeper = index => `{"type":"${index % 2 ? 'listitem' : 'list'}","children":[`;
 const makers = {
   unended: (count, what, rest) => rest,
   times: (count, line) => `${line}\n`.repeat(count),
   steps: (count, step) => `{"update":[${listOf(count, step)}]}\n`,
   keys: count => Array.from({ length: count }, (_, index) => `${keyPress(index)}\n`).join(''),
   letters: count => `{"update":[{"append":"${'x'.repeat(count)}"}]}\n`,
-  deep: count => load(Array.from({ length: count }, (_, index) => `{"type":"${index % 2 ? 'listitem' : 'list'}","children":[`).join('') + ']}'.repeat(count)),
+  deep: count => load(Array.from({ length: count }, (_, index) => deeper(index)).join('') + ']}'.repeat(count)),
   wide: count => load(listOf(count, paragraph)),
   blocks: count => load(listOf(count, `{"type":"quote","children":[${listOf(99, paragraph)}]}`)),
-  texts: count => load(`{"type":"paragraph","children":[${listOf(count, '{"type":"text","text":"one of many texts, "}')}]}`),
+  texts: count => load(`{"type":"paragraph","children":[${listOf(count, text)}]}`),
   long: count => load(`{"type":"paragraph","children":[{"type":"text","text":"${'x'.repeat(count)}"}]}`),
 };
 
@@ -67,6 +69,6 @@ function keyPress(index) {
 
 /** Replies as they are stored. */
 export function asStored(replies, tellsLast) {
-  const told = tellsLast ? replies.slice(-1) : replies;
-  return told.map(reply => `${reply.length > LONGEST ? `${reply.slice(0, SHOWN)} .. ${reply.length}` : reply}\n`).join('');
+  const stored = reply => reply.length > LONGEST ? `${reply.slice(0, SHOWN)} .. ${reply.length}` : reply;
+  return (tellsLast ? replies.slice(-1) : replies).map(reply => `${stored(reply)}\n`).join('');
 }

@@ -1,7 +1,7 @@
-// The types, by the compiler of TypeScript, if it is there: what is taken and answered has them, and what is wrong hasn't.
+// The types, by TypeScript's compiler if it is there: what is taken and answered has them, and what is wrong hasn't.
 import assert from 'node:assert/strict';
 import { spawnSync } from 'node:child_process';
-import { readFileSync, writeFileSync } from 'node:fs';
+import { writeFileSync } from 'node:fs';
 import { join } from 'node:path';
 import test from 'node:test';
 import { optionsOf } from '../words.js';
@@ -10,11 +10,11 @@ import { storedSessions } from './rows.mjs';
 
 const LONGEST = 20_000; // bytes of a line or a reply: longer ones would show nothing new
 const skip = spawnSync('tsc', ['--version']).status === 0 ? false : 'there is no tsc';
-const options = ['--strict', '--noEmit', '--target', 'es2022', '--module', 'es2022', '--moduleResolution', 'node', '--lib', 'es2022,dom,dom.iterable'];
+const words = '--strict --noEmit --target es2022 --module es2022 --moduleResolution node --lib es2022,dom,dom.iterable'.split(' ');
 
 /** What the compiler says of files: nothing, if all is right. */
-function compilerSays(...words) {
-  const { stdout } = spawnSync('tsc', [...options, ...words], { maxBuffer: 2 ** 30 });
+function compilerSays(...files) {
+  const { stdout } = spawnSync('tsc', [...words, ...files], { maxBuffer: 2 ** 30 });
   return stdout.toString().split('\n').filter(Boolean);
 }
 
@@ -27,20 +27,21 @@ function compilerSaysOf(text) {
 }
 
 const head = `import type { Line, Reply } from '${web}lexical.js';\n`;
-const isRefusedForForm = reply => /^\{("handled":false,)?"refused":\{"cause":"Bad(Line|Command)",.*"step":null\}\}$/.test(reply);
+const isRefusedForForm = reply => /^\{"refused":\{"cause":"Bad(Line|Command)",.*"step":null\}\}$/.test(reply);
 
 /** A field that no type has is refused as WrongKind, so it is in the grammar, and in no type. */
 const setsNoField = /"fields":\{"z":/;
 
 /**
- * The lines that the core takes, and all replies: one of those that differ in numbers and letters typed alone. Both are written
- * anew, since members may come twice in a line.
+ * The lines that the core takes, and all replies: one of those that differ only in numbers, or letters typed. They are
+ * written anew, since members may come twice in a line.
  */
 async function linesAndReplies() {
   const core = await newCore();
   const lines = new Map(), replies = new Map();
   const add = (map, json) => {
-    if (json.length <= LONGEST) map.set(json.replace(/(?<![a-z])\d+/g, '0').replace(/[e ]{2,}/g, 'e'), JSON.stringify(JSON.parse(json)));
+    const shape = json.replace(/(?<![a-z])\d+/g, '0').replace(/[e ]{2,}/g, 'e');
+    if (json.length <= LONGEST) map.set(shape, JSON.stringify(JSON.parse(json)));
   };
   const sessions = [...examples.map(({ input }) => ({ words: [], input })), ...storedSessions()];
   for (const { words, input } of sessions) {
@@ -99,12 +100,12 @@ test('wrong lines have no type', { skip }, () => {
     '{ listener: { on: "sign", priority: 0, steps: [] } }',
     '{ hub: "attach" }',
   ];
-  const text = head + wrong.map((line, index) => `// @ts-expect-error\nexport const wrong${index}: Line = ${line};`).join('\n');
-  assert.deepEqual(compilerSaysOf(text), []);
+  const typed = wrong.map((line, index) => `// @ts-expect-error\nexport const wrong${index}: Line = ${line};`);
+  assert.deepEqual(compilerSaysOf(head + typed.join('\n')), []);
 });
 
 test('replies tell by their members what they are', { skip }, () => {
-  assert.deepEqual(compilerSaysOf(readFileSync(join(web, 'test', 'uses.ts'), 'utf8').replace('../lexical.js', `${web}lexical.js`)), []);
+  assert.deepEqual(compilerSays(join(web, 'test', 'uses.ts')), []);
 });
 
 test('the package has the types that it tells', { skip }, () => {
