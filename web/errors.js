@@ -24,7 +24,7 @@ const failures = {
   [CLOSED]: ['closed', 'the editor is closed'],
   [MEMORY]: ['memory', 'there is no memory for that: the editor is as it was, but for updates that waited'],
   [LONG]: ['long', 'the line has more than 16,777,216 bytes: nothing was done'],
-  [SPENT]: ['spent', 'the editor has made as many commits as it can'],
+  [SPENT]: ['spent', 'the editor has made as many commits as it can: nothing was done'],
 };
 
 /**

@@ -16,7 +16,7 @@ export interface Options {
 
 /**
  * - `closed`: the editor was closed.
- * - `spent`: it has made 4,294,967,295 commits, and makes no more.
+ * - `spent`: it has made 4,294,967,295 commits, and answers no line any more.
  * - `memory`: there is none for that. The editor is as it was, but for updates that waited.
  * - `broken`: the module has stopped in this call or an earlier one, and all its editors are lost.
  * - `line`: what was given is no line; the message says why.
@@ -67,6 +67,6 @@ export class Lexical {
   /** The same with bytes. A line that isn't UTF-8 is refused as `BadLine`. */
   bytes(line: Uint8Array): Uint8Array;
 
-  /** Drops the editor, and gives its memory to the others. A second call does nothing. */
+  /** Drops the editor, and gives its memory to the others. Does nothing if it is closed, or the module has stopped. */
   close(): void;
 }

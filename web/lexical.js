@@ -153,7 +153,7 @@ export class Lexical {
     return this.#channel.bytes(slot, line);
   }
 
-  /** Drops the editor, and gives its memory to the others. A second call does nothing. */
+  /** Drops the editor, and gives its memory to the others. Does nothing if it is closed, or the module has stopped. */
   close() {
     if (this.#slot === null) return;
     const slot = this.#slot;

@@ -132,6 +132,22 @@ test('a module that stops, by an instance whose call throws as a trap does', asy
   editor.close(); // which is lost already
 });
 
+test('what the numbers of the module mean, by an instance that answers them', async () => {
+  const { instance } = await WebAssembly.instantiate(moduleBytes, {});
+  let told = 0;
+  const lx_live_line = (...given) => told || instance.exports.lx_live_line(...given);
+  const lx_live_open = (...given) => told || instance.exports.lx_live_open(...given);
+  const core = new Core({ exports: { ...instance.exports, lx_live_line, lx_live_open } });
+  const editor = core.open();
+  for (const [number, code] of [[1, 'closed'], [5, 'memory'], [6, 'long'], [7, 'spent'], [9, 'broken']]) {
+    told = number;
+    assert.equal(codeOf(() => editor.line(append('a'))), code);
+    assert.equal(codeOf(() => core.open()), code);
+  }
+  told = 0;
+  assert.equal(editor.line(append('a')).commit, 1);
+});
+
 test('a module that really stops, by a call with a wild address behind the back of the core', async () => {
   const { instance } = await WebAssembly.instantiate(moduleBytes, {});
   const core = new Core(instance);
