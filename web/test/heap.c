@@ -5,21 +5,18 @@
 #include <stdio.h>
 #include <string.h>
 #include <sys/mman.h>
-static unsigned long long arena, pages, most;
+static unsigned long long arena, pages, most, refusal;
 static unsigned char *heap_base_at;
 #define __heap_base (*heap_base_at)
 #define memory_size() (arena / 65536 + pages)
 static unsigned long long grow(unsigned long long more) {
     unsigned long long was = pages;
     if (more > most - pages)
-        return -1;
+        return refusal;
     pages += more;
     return arena / 65536 + was;
 }
 #define memory_grow(more) grow(more)
-#define malloc heap_malloc
-#define free heap_free
-#define realloc heap_realloc
 #define export_name(word) unused
 #include "../build/heap.c"
 
@@ -57,12 +54,12 @@ static int classes(void) {
     for (u64 class = 0; class + 1 < CLASSES; class += 1)
         if (class_of(size_of(class)) != class || class_of(size_of(class) + 1) != class + 1 || size_of(class) % 16)
             return wrong("a class");
-    if (size_of(CLASSES - 1) != LARGEST || malloc(LARGEST + 1))
+    if (size_of(CLASSES - 1) != LARGEST || take(LARGEST + 1))
         return wrong("the last class");
     return 0;
 }
 /* Gives a block back, if there is one, and takes another in its place. */
-static int take(int i, u64 n) {
+static int take_anew(int i, u64 n) {
     if (blocks[i].at) {
         if (!keeps(i, blocks[i].size))
             return wrong("bytes before a block is given back");
@@ -78,7 +75,7 @@ static int take(int i, u64 n) {
     return 0;
 }
 /* Makes a block longer or shorter; it keeps some of its bytes. */
-static int resize(int i, u64 n) {
+static int make_as_long(int i, u64 n) {
     u64 was = blocks[i].size, keep = next() % (was + 1);
     struct tried t = rattle_realloc(blocks[i].at, keep, n, 16);
     failed += !t.ok;
@@ -91,13 +88,14 @@ static int resize(int i, u64 n) {
     memset(t.p, blocks[i].fill, n);
     return 0;
 }
-/* A memory of its own, with at most so many pages more. */
+/* A new memory, with another limit. That it can't grow is told in 64 bits, or in 32, as before and after addresses are lowered. */
 static void begin(u8 *room) {
     arena = ((u64)room + 65535) / 65536 * 65536;
     heap_base_at = (u8 *)arena + 1000;
     pages = 1, most = 2 + next() % 200;
+    refusal = next() % 2 ? (u64)-1 : (u32)-1;
     memset(free_lists, 0, sizeof free_lists);
-    brk_at = brk_end = 0;
+    fresh_at = fresh_end = 0;
     memset(blocks, 0, sizeof blocks);
 }
 static int round_of(u8 *room) {
@@ -106,7 +104,7 @@ static int round_of(u8 *room) {
     for (int step = 0; step < STEPS; step += 1) {
         int i = next() % BLOCKS;
         u64 n = next() % 4 ? next() % largest : next() % 200;
-        if (blocks[i].at == 0 || next() % 3 == 0 ? take(i, n) : resize(i, n))
+        if (blocks[i].at == 0 || next() % 3 == 0 ? take_anew(i, n) : make_as_long(i, n))
             return 1;
     }
     for (int i = 0; i < BLOCKS; i += 1) {
