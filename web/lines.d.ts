@@ -1,6 +1,6 @@
 /**
- * Lines that an editor takes: what examples/lines.schema.json says of them, as far as types can. Ranges of numbers aren't
- * said, nor that numbers are whole. Lines about views and outlines (`hub`, `ask`) are left out: they need the program.
+ * Lines that an editor takes, as examples/lines.schema.json has them. Types can't say that numbers are whole, nor in what
+ * range they are. Lines about views and outlines (`hub`, `ask`) are left out: they need the program.
  */
 export type Line = OneOf<
   UpdateLine | FlushLine | DispatchLine | RuleLine | ListenerLine | LoadLine | ShowLine | ClearLine

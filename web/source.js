@@ -49,6 +49,6 @@ async function bytesOf(file) {
  */
 async function compiledFrom(response) {
   if (!response.ok) throw new Error(`the module can't be fetched from ${response.url}: status ${response.status}`);
-  const isWasm = response.headers.get('content-type')?.startsWith('application/wasm'); // else it can't be compiled as it comes
+  const isWasm = response.headers.get('content-type')?.startsWith('application/wasm'); // or it isn't taken as a stream
   return isWasm ? WebAssembly.compileStreaming(response) : WebAssembly.compile(await response.arrayBuffer());
 }

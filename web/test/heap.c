@@ -1,6 +1,6 @@
 /* Random calls of build/heap.c, over an arena that stands for the memory: test/run compiles and runs them.
- * Each block is aligned, lies in the memory, keeps its bytes and overlaps no other. What is asked after everything was given
- * back is there. */
+ * Each block is aligned, lies in the memory, keeps its bytes and overlaps no other. Once everything was given back, what is
+ * asked for is there. */
 #include <stdint.h>
 #include <stdio.h>
 #include <string.h>
@@ -88,7 +88,7 @@ static int make_as_long(int i, u64 n) {
     memset(t.p, blocks[i].fill, n);
     return 0;
 }
-/* A new memory, with another limit. That it can't grow is told in 64 bits, or in 32, as before and after addresses are lowered. */
+/* A new memory, with another limit. That it can't grow is told in 64 bits, or in 32, as after addresses are lowered. */
 static void begin(u8 *room) {
     arena = ((u64)room + 65535) / 65536 * 65536;
     heap_base_at = (u8 *)arena + 1000;

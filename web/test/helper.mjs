@@ -62,7 +62,9 @@ export function runProgram(program, words, input, stdio = 'pipe') {
 export const letters = count => 'abcdefghij'.repeat(Math.ceil(count / 10)).slice(0, count);
 
 /** All that an editor tells of itself. */
-export const stateOf = editor => ['state', 'view', 'selection', 'history'].map(show => editor.text(JSON.stringify({ show }))).join();
+export function stateOf(editor) {
+  return ['state', 'view', 'selection', 'history'].map(show => editor.text(JSON.stringify({ show }))).join('\n');
+}
 
 /** The code of the error that an act throws, or null. */
 export function codeOf(act) {

@@ -7,9 +7,8 @@ import { codeOf, letters, moduleBytes, newCore, stateOf } from './helper.mjs';
 
 const PAGE = 65536;
 const append = text => ({ update: [{ append: text }] });
-const documentOf = paragraphs => ({
-  load: { root: { children: Array(paragraphs).fill({ type: 'paragraph', children: [{ type: 'text', text: 'word' }] }) } },
-});
+const paragraph = { type: 'paragraph', children: [{ type: 'text', text: 'word' }] };
+const documentOf = paragraphs => ({ load: { root: { children: Array(paragraphs).fill(paragraph) } } });
 
 /** Grows a document until memory is wanting 30 times. What is answered is what an editor with ample memory answers. */
 async function fill(pages, grow) {
@@ -42,7 +41,7 @@ async function fill(pages, grow) {
 test('memory that is wanting for texts', () => fill(64, () => ({ ...append(letters(2000)), tags: ['history-push'] })));
 test('memory that is wanting for loads', () => fill(64, i => documentOf(100 + 100 * i % 6000)));
 test('memory that is wanting for long lines', () => fill(96, i => append(letters(1000 * i))));
-test('memory that is wanting for steps', () => fill(128, i => ({ update: Array(50).fill({ append: letters(100 + i) }) })));
+test('memory that is wanting for steps', () => fill(128, () => ({ update: Array(50).fill({ append: letters(100) }) })));
 
 test('a line for which memory is wanting leaves all as it was', async () => {
   const core = await newCore(bounded(64));
@@ -76,7 +75,7 @@ test('memory that is wanting for editors', async () => {
   assert.equal(core.open().line({ show: 'view' }).view, '<div></div>');
 });
 
-/** A core whose buffers can't grow while `room` isn't there, though its editors can: by an instance with another `lx_take`. */
+/** A core whose buffers can't grow while no room is there, though its editors can: it has an `lx_take` of its own. */
 async function withoutRoom() {
   const { instance } = await WebAssembly.instantiate(moduleBytes, {});
   const room = { isThere: true };

@@ -6,7 +6,7 @@ import { top } from './helper.mjs';
 const LONGEST = 4096; // bytes of a reply that is stored whole
 const SHOWN = 60; // bytes of a longer one, which are stored with its length
 
-/** The parts of a stored file, by the lines `=== NAME` before them. Not all bytes are UTF-8, so strings have one a unit. */
+/** The parts of a stored file, with their names. Not all bytes are UTF-8, so each is a character here. */
 function partsOf(file) {
   const text = readFileSync(join(top, 'crates', 'lx_rows', file), 'latin1');
   return text.split(/(?<![^\n])=== /).slice(1).map(part => {

@@ -88,7 +88,8 @@ test('as many bytes of input as there may be, and one more', () => {
   const done = runProgram(program, [], full);
   assert.deepEqual([done.status, linesOf(done.stdout).length, done.stderr], [0, 2, '']);
   const tooLong = runProgram(program, [], Buffer.concat([full, Buffer.from('\n')]));
-  assert.deepEqual([tooLong.status, linesOf(tooLong.stdout).length, tooLong.stderr], [6, 1, 'lexical: input too long\n']);
+  assert.deepEqual([tooLong.status, tooLong.stderr], [6, 'lexical: input too long\n']);
+  assert.equal(linesOf(tooLong.stdout).length, 1);
 });
 
 test('reads and writes that fail', { skip: process.platform !== 'linux' && 'no /dev/full' }, () => {

@@ -7,10 +7,11 @@ import test from 'node:test';
 import { optionsOf } from '../words.js';
 import { examples, linesOf, newCore, newFolder, web } from './helper.mjs';
 import { storedSessions } from './rows.mjs';
+import { fittingLines, misfittingLines } from './schema.mjs';
 
 const LONGEST = 20_000; // bytes of a line or a reply: longer ones would show nothing new
 const skip = spawnSync('tsc', ['--version']).status === 0 ? false : 'there is no tsc';
-const words = '--strict --noEmit --target es2022 --module es2022 --moduleResolution node --lib es2022,dom,dom.iterable'.split(' ');
+const words = '--strict --noEmit --target es2022 --module es2022 --moduleResolution node --lib es2022,dom'.split(' ');
 
 /** What the compiler says of files: nothing, if all is right. */
 function compilerSays(...files) {
@@ -18,15 +19,17 @@ function compilerSays(...files) {
   return stdout.toString().split('\n').filter(Boolean);
 }
 
-/** The same of one text, each complaint with the line that it is about. */
+/** The same of one text: complaints, with the line that each is about, and the one behind. */
 function compilerSaysOf(text) {
   const file = join(newFolder(), 'uses.ts');
   writeFileSync(file, text);
   const lines = text.split('\n');
-  return compilerSays(file).map(said => `${said} -- ${lines[/\((\d+),/.exec(said)?.[1] - 1]?.slice(0, 500)}`);
+  const about = said => Number(/\((\d+),/.exec(said)?.[1]);
+  return compilerSays(file).map(said => [said, ...lines.slice(about(said) - 1, about(said) + 1)].join('\n'));
 }
 
 const head = `import type { Line, Reply } from '${web}lexical.js';\n`;
+const wrongLine = (line, index) => `// @ts-expect-error\nexport const wrong${index}: Line = ${line};`;
 const isRefusedForForm = reply => /^\{"refused":\{"cause":"Bad(Line|Command)",.*"step":null\}\}$/.test(reply);
 
 /** A field that no type has is refused as WrongKind, so it is in the grammar, and in no type. */
@@ -65,6 +68,13 @@ test('lines that are taken and replies have their types', { skip }, async () => 
   assert.ok(lines.length > 500 && replies.length > 500, `${lines.length} lines, ${replies.length} replies`);
 });
 
+test('lines have types as the schema has them', { skip }, () => {
+  const right = fittingLines().map((line, index) => `export const right${index}: Line = ${line};`);
+  const wrong = misfittingLines().map(wrongLine);
+  assert.deepEqual(compilerSaysOf(head + [...right, ...wrong].join('\n')), []);
+  assert.ok(right.length > 500 && wrong.length > 500, `${right.length} right, ${wrong.length} wrong`);
+});
+
 test('wrong lines have no type', { skip }, () => {
   const wrong = [
     '{}',
@@ -100,8 +110,7 @@ test('wrong lines have no type', { skip }, () => {
     '{ listener: { on: "sign", priority: 0, steps: [] } }',
     '{ hub: "attach" }',
   ];
-  const typed = wrong.map((line, index) => `// @ts-expect-error\nexport const wrong${index}: Line = ${line};`);
-  assert.deepEqual(compilerSaysOf(head + typed.join('\n')), []);
+  assert.deepEqual(compilerSaysOf(head + wrong.map(wrongLine).join('\n')), []);
 });
 
 test('replies tell by their members what they are', { skip }, () => {
