@@ -28,7 +28,7 @@ async function run(words) {
   if (options === null) throw new Stop(USAGE, 'usage');
   if ('needs' in options) throw new Stop(USAGE, `${options.needs} needs the program`);
   const core = await Core.load();
-  const editor = memorySuffices(() => core.open(options));
+  const editor = core.open(options);
   const pending = new Pending();
   await readAll(piece => take(editor, pending, piece));
   if (pending.length > 0) await answer(editor, pending.take());
@@ -84,7 +84,7 @@ async function take(editor, pending, piece) {
  * @param {Uint8Array} line
  */
 async function answer(editor, line) {
-  const reply = memorySuffices(() => editor.bytes(line));
+  const reply = editor.bytes(line);
   const ended = new Uint8Array(reply.length + 1);
   ended.set(reply);
   ended[reply.length] = LINE_END;
@@ -94,24 +94,21 @@ async function answer(editor, line) {
 }
 
 /**
- * @template T
- * @param {() => T} act
- * @returns {T}
+ * The end of a run that an error makes. Any other error, as of a module that stopped, is node's to tell.
+ * @param {unknown} error
+ * @returns {Stop}
  */
-function memorySuffices(act) {
-  try {
-    return act();
-  } catch (error) {
-    if (error instanceof LexicalError && error.code === 'memory') throw new Stop(MEMORY, 'memory');
-    throw error;
-  }
+function stopOf(error) {
+  if (error instanceof LexicalError && error.code === 'memory') return new Stop(MEMORY, 'memory');
+  if (error instanceof Stop) return error;
+  throw error;
 }
 
 process.stdout.on('error', () => {}); // each write hears of its own fault
 try {
   await run(process.argv.slice(2));
 } catch (error) {
-  if (!(error instanceof Stop)) throw error;
-  console.error(`lexical: ${error.message}`);
-  process.exitCode = error.status;
+  const { message, status } = stopOf(error);
+  console.error(`lexical: ${message}`);
+  process.exitCode = status;
 }

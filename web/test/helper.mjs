@@ -1,6 +1,6 @@
 // What the tests share: the module, stored lines, and the program over the module.
 import { spawnSync } from 'node:child_process';
-import { cpSync, mkdtempSync, readFileSync, readdirSync, rmSync } from 'node:fs';
+import { cpSync, mkdtempSync, readFileSync, readdirSync, rmSync, writeFileSync } from 'node:fs';
 import { tmpdir } from 'node:os';
 import { join } from 'node:path';
 import { after } from 'node:test';
@@ -9,10 +9,8 @@ import { Core } from '../lexical.js';
 
 export const web = fileURLToPath(new URL('..', import.meta.url));
 export const top = fileURLToPath(new URL('../..', import.meta.url));
-const modulePath = process.env.LEXICAL_WASM ?? join(web, 'lexical.wasm');
-
 /** The bytes of the module that is tested: another one than that of the package, if LEXICAL_WASM names it. */
-export const moduleBytes = readFileSync(modulePath);
+export const moduleBytes = readFileSync(process.env.LEXICAL_WASM ?? join(web, 'lexical.wasm'));
 
 export const newCore = (bytes = moduleBytes) => Core.load(bytes);
 
@@ -42,13 +40,14 @@ export function newFolder() {
   return folder;
 }
 
-/** A copy of what the package has, with the module that is tested: the program in it. */
-export function packedProgram() {
+/** A copy of what the package has, with the module that is tested, or another: the program in it. */
+export function packedProgram(bytes = moduleBytes) {
   const folder = newFolder();
   const { files } = JSON.parse(readFileSync(join(web, 'package.json'), 'utf8'));
   for (const file of ['package.json', ...files]) {
-    cpSync(file === 'lexical.wasm' ? modulePath : join(web, file), join(folder, file));
+    if (file !== 'lexical.wasm') cpSync(join(web, file), join(folder, file));
   }
+  writeFileSync(join(folder, 'lexical.wasm'), bytes);
   return join(folder, 'cli.mjs');
 }
 

@@ -4,7 +4,8 @@ import { spawn } from 'node:child_process';
 import { openSync } from 'node:fs';
 import { join } from 'node:path';
 import test from 'node:test';
-import { examples, linesOf, newCore, newFolder, packedProgram, runProgram, top } from './helper.mjs';
+import { bounded } from './bounded.mjs';
+import { examples, letters, linesOf, newCore, newFolder, packedProgram, runProgram, top } from './helper.mjs';
 
 const program = packedProgram();
 const hello = '{"update":[{"append":"Hello"}]}\n';
@@ -102,6 +103,12 @@ test('reads and writes that fail', { skip: process.platform !== 'linux' && 'no /
   }
 });
 
+test('memory that is wanting', () => {
+  const input = `${hello}${JSON.stringify({ update: [{ append: letters(1_000_000) }] })}\n${hello}`;
+  const { status, stdout, stderr } = runProgram(packedProgram(bounded(64)), [], input);
+  assert.deepEqual([status, linesOf(stdout).length, stderr], [5, 1, 'lexical: memory\n']);
+});
+
 test('a reader that goes away', async () => {
   const child = spawn(process.execPath, [program], { stdio: ['pipe', 'pipe', 'pipe'] });
   let said = '';
@@ -111,6 +118,12 @@ test('a reader that goes away', async () => {
   child.stdin.end(hello.repeat(100_000));
   const status = await new Promise(resolve => { child.on('close', resolve); });
   assert.deepEqual([status, said], [4, 'lexical: write fault\n']);
+});
+
+test('the client of examples/, which waits for each reply', () => {
+  const { status, stdout } = runProgram(join(top, 'examples', 'clients', 'client.mjs'), [process.execPath, program]);
+  assert.equal(status, 0);
+  assert.match(stdout.toString(), /\{"commit":3,.*\ndiv null\n  p null\n    span "Hello, world"\n  p null\n$/);
 });
 
 test('each reply comes before the next line is sent, also of a line in small pieces', async () => {
