@@ -1,4 +1,4 @@
-/* Two editors that are open at once, typed into in turn. Each reply is had through a buffer that most don't fit into. */
+/* Two editors that are open at once, typed into in turn. Replies are had in pieces, through a small buffer. */
 #include <stdio.h>
 #include <stdlib.h>
 #include <string.h>
@@ -41,7 +41,8 @@ static void say(lx_live_slot *slot, const char *line) {
 static void type(lx_live_slot *slots, const char *const words[][EDITORS], size_t rounds) {
     char line[100];
     for (size_t i = 0; i < rounds * EDITORS; i += 1) {
-        snprintf(line, sizeof line, "{\"dispatch\":\"insert-text\",\"payload\":\"%s\"}", words[i / EDITORS][i % EDITORS]);
+        const char *word = words[i / EDITORS][i % EDITORS];
+        snprintf(line, sizeof line, "{\"dispatch\":\"insert-text\",\"payload\":\"%s\"}", word);
         say(&slots[i % EDITORS], line);
     }
 }

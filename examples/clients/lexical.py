@@ -86,8 +86,8 @@ def place_of(given: str | os.PathLike[str] | None) -> str:
 def library_at(place: str) -> ctypes.CDLL:
     """The library, with the types of its calls.
 
-    A CDLL lets other threads run during a call, which takes a tenth of a second for a large document. A PyDLL would hold
-    them all up, and yet not keep two threads out of one editor between the pieces of a reply: a lock of the editor does.
+    A CDLL lets other threads run during a call, which for a large document takes a tenth of a second. A PyDLL would hold
+    them all up. It wouldn't keep a second thread out between the pieces of a reply either: each editor's lock does.
     """
     library = ctypes.CDLL(place)
     slot = ctypes.POINTER(Slot)
@@ -112,8 +112,9 @@ def need(told: int) -> None:
 class Editor:
     """One editor. One thread at a time is in it, and others wait; those with editors of their own don't.
 
-    With `view` its replies to commits include the view, as HTML. Typing goes on in one entry of the history while less than
-    `delay` milliseconds lie between two commits. `close` drops it, as does the end of a `with`, or of its last reference.
+    With `view` its replies to commits include the view, as HTML. Typing goes on in one entry of the history while less
+    than `delay` milliseconds lie between two commits. `close` drops it, as does the end of a `with`, or of its last
+    reference. Don't call it in a signal handler, which may have come in the middle of a call.
     """
 
     def __init__(self, *, view: bool = False, delay: int = 1000,
@@ -147,7 +148,7 @@ class Editor:
         return self.bytes(written).decode()
 
     def bytes(self, line: builtins.bytes) -> builtins.bytes:
-        """Answers the bytes of a line, without its end, by those of the reply. Bytes that aren't UTF-8 are refused there."""
+        """Answers the bytes of a line, without its end, by those of the reply. It refuses what isn't UTF-8."""
         if not isinstance(line, builtins.bytes):
             raise LineError(f"the bytes of a line are bytes, and this is a {type(line).__name__}")
         if b"\n" in line:

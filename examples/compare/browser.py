@@ -17,11 +17,11 @@ from workloads import Session
 
 LONGEST_RUN = 300  # seconds
 OWN_FILES = {"/": "page.html", "/page.js": "page.js", "/session.mjs": "session.mjs"}
-KINDS = {".html": "text/html; charset=utf-8", ".js": "text/javascript", ".mjs": "text/javascript", ".wasm": "application/wasm"}
+KINDS = {".html": "text/html", ".js": "text/javascript", ".mjs": "text/javascript", ".wasm": "application/wasm"}
 
 
 class Site(http.server.ThreadingHTTPServer):
-    """What the page asks for. One session at a time is put into `sessions`, and what the page says comes out of `told`."""
+    """What the page asks for. A session at a time goes into `sessions`, and what the page tells comes out of `told`."""
 
     daemon_threads = True
 
@@ -57,7 +57,10 @@ class Handler(http.server.BaseHTTPRequestHandler):
 
     def do_GET(self) -> None:
         found = self.server.content(self.path)
-        self.answer(404, "text/plain", b"") if found is None else self.answer(200, *found)
+        if found is None:
+            self.answer(404, "text/plain", b"")
+        else:
+            self.answer(200, *found)
 
     def do_POST(self) -> None:
         self.server.told.put(json.loads(self.rfile.read(int(self.headers["Content-Length"]))))

@@ -3,8 +3,8 @@
 
     python3 examples/compare/compare.py [--program PATH] [--client PATH] [--module PATH] [--runs N] [--only WORD]
 
-It prints a table in Markdown: microseconds a line, of the least of the runs, which go round by turns. A side that isn't there is
-left out. README.md says what each does, and what it needs.
+It prints a table in Markdown: microseconds a line, of the least of the runs, which go round by turns. A side that isn't
+there is left out. README.md says what each does, and what it needs.
 """
 from __future__ import annotations
 
@@ -12,6 +12,7 @@ import argparse
 import os
 import pathlib
 import platform
+import re
 import shlex
 import shutil
 import subprocess
@@ -88,10 +89,12 @@ def row(sides: list[Side], session: Session, least: dict[str, Told]) -> str:
 
 
 def version(command: list[str]) -> str:
-    """What a command says of itself, or nothing."""
+    """The name of a command and its version, or nothing where it isn't there."""
     if shutil.which(command[0]) is None:
         return ""
-    return subprocess.run([*command, "--version"], capture_output=True, text=True).stdout.strip()
+    said = subprocess.run([*command, "--version"], capture_output=True, text=True).stdout
+    number = re.search(r"\d[\d.]*", said)
+    return f"{os.path.basename(command[0])} {number[0] if number else ''}"
 
 
 def load_average() -> str:
@@ -100,8 +103,8 @@ def load_average() -> str:
 
 def compare(given: argparse.Namespace, sides: list[Side]) -> None:
     sessions = [session for session in (make() for make in SESSIONS) if given.only in session.name]
-    print(f"{os.cpu_count()} processors, {platform.machine()}; node {version(given.node)}; {version([given.chromium])}; "
-          f"{load_average()}\n")
+    machine = f"{os.cpu_count()} processors, {platform.machine()}"
+    print("; ".join(filter(None, (machine, version(given.node), version([given.chromium]), load_average()))) + "\n")
     head = ("Session", "Lines", *(side.name for side in sides))
     print("| " + " | ".join(head) + " |\n|" + "---|" * len(head), flush=True)
     for session in sessions:

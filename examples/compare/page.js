@@ -1,7 +1,7 @@
 // Answers sessions by the WebAssembly module in a page: asks the server for one after the other, and tells how it went.
 import { linesOf, timed } from './session.mjs';
 
-/** Answers a session by a new instance of what was compiled once: what it took, and the bytes of its replies with their ends. */
+/** Answers a session by a new instance of what was compiled once: what it took, and how many bytes the replies have. */
 async function run({ Core, module }, { where, before }) {
   const lines = linesOf(new Uint8Array(await (await fetch(where)).arrayBuffer()));
   const editor = (await Core.load(module)).open();

@@ -1,7 +1,7 @@
 // Answers a session by ProseMirror's model, transform and state in node, where the lines have a counterpart there:
 //   NODE_PATH=/usr/share/nodejs node prosemirror.mjs BEFORE < LINES > REPLIES
-// BEFORE is the number of lines that aren't measured. Each line is a transaction, and its reply has the transaction's steps, as
-// JSON. The status is 3 if a line has no counterpart.
+// BEFORE is the number of lines that aren't measured. Each line is a transaction, and its reply has the transaction's
+// steps, as JSON. The status is 3 if a line has no counterpart.
 import { createRequire } from 'node:module';
 import { answerStandardInput } from './standard.mjs';
 
@@ -29,7 +29,7 @@ function noCounterpart(what) {
   process.exit(NO_COUNTERPART);
 }
 
-/** Where a node begins, by its key. That is its place in document order, in a document that was loaded and kept its nodes. */
+/** Where a node begins, by its key: its number in document order, where the document was loaded and has kept its nodes. */
 function positionOf(key) {
   let count = 0, found = -1;
   state.doc.descendants((node, position) => {

@@ -11,7 +11,7 @@ export function linesOf(bytes) {
   return lines;
 }
 
-/** Answers lines one after the other: the replies, and the milliseconds that those behind the first `before` lines took. */
+/** Answers lines one after the other: all replies, and the milliseconds of the lines behind the first `before`. */
 export function timed(answer, lines, before) {
   const replies = lines.slice(0, before).map(answer), measured = lines.slice(before);
   const begun = performance.now();

@@ -28,7 +28,7 @@ class Told:
 
 
 class Side(Protocol):
-    """One that answers sessions. `is_core` tells that the core does, so that its replies are those of other such sides."""
+    """One that answers sessions. With `is_core` it does so by the core, so its replies are those of other such sides."""
 
     name: str
     is_core: bool

@@ -1,4 +1,4 @@
-// A session from standard input, in node: its replies go to standard output, and the time to the last line of standard error.
+// A session from standard input, in node: its replies go to standard output, and the time to standard error, last.
 import { readFileSync, writeSync } from 'node:fs';
 import { linesOf, timed } from './session.mjs';
 

@@ -12,9 +12,9 @@ from typing import Callable, Iterable
 
 # Documents are at most about as large as a state may be, 16,384 nodes with the root.
 LOADED_QUOTES, LOADED_PARAGRAPHS = 90, 88  # 90 quotes of 88 paragraphs of a text: 15,930 nodes
-COMMANDS_OF_A_LIST: tuple[tuple[str, object], ...] = (
+COMMANDS_OF_A_LIST = (
     ("make-list", "bullet"), ("insert-paragraph", None), ("indent", None), ("insert-paragraph", None), ("outdent", None))
-COMMANDS_OF_A_TABLE: tuple[tuple[str, object], ...] = (
+COMMANDS_OF_A_TABLE = (
     ("insert-row", "after"), ("delete-row", None), ("insert-column", "after"), ("delete-column", None))
 
 
@@ -62,9 +62,9 @@ EMPTY_PARAGRAPH = line_of({"update": [{"append": ""}, caret(1, 0, "element")]})
 
 
 def typed(count: int, enter: int, **more: object) -> tuple[bytes, ...]:
-    """Letters and spaces, and in each place that `enter` divides a new paragraph."""
-    return tuple(command("insert-text", "abcdefghij "[i % 11], **more) if i % enter else command("insert-paragraph", **more)
-                 for i in range(1, count + 1))
+    """Letters and spaces, and a new paragraph as each `enter`-th line."""
+    return tuple(command("insert-paragraph", **more) if i % enter == 0
+                 else command("insert-text", "abcdefghij "[i % 11], **more) for i in range(1, count + 1))
 
 
 def set_texts() -> tuple[bytes, ...]:
