@@ -6,6 +6,7 @@ import json
 import os
 import pathlib
 import queue
+import shutil
 import subprocess
 import tempfile
 import threading
@@ -87,8 +88,8 @@ class Page:
     def __init__(self, chromium: str, client: pathlib.Path, module: pathlib.Path) -> None:
         self.site = Site(client, module)
         threading.Thread(target=self.site.serve_forever, daemon=True).start()
-        self.profile = tempfile.TemporaryDirectory(ignore_cleanup_errors=True)
-        words = ["--headless=new", "--disable-gpu", "--no-first-run", f"--user-data-dir={self.profile.name}"]
+        self.profile = tempfile.mkdtemp()
+        words = ["--headless=new", "--disable-gpu", "--no-first-run", f"--user-data-dir={self.profile}"]
         if os.geteuid() == 0:
             words.append("--no-sandbox")  # Chromium has no sandbox for root
         place = f"http://127.0.0.1:{self.site.server_port}/"
@@ -118,4 +119,4 @@ class Page:
         self.process.wait()
         self.site.shutdown()
         self.site.server_close()
-        self.profile.cleanup()
+        shutil.rmtree(self.profile, ignore_errors=True)  # what Chromium has begun may still write there
