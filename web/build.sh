@@ -1,0 +1,95 @@
+#!/usr/bin/env bash
+# Makes web/lexical.wasm of the proved crate lx_live, and web/lexical.wasm.json, which says what it was made of.
+#
+#     web/build.sh            makes both; what they are made of has to be committed
+#     web/build.sh --check    makes the module anew, and compares it with the one that is kept, byte for byte
+#
+# It takes the Rattle kit, with rt on the path, and wasm-opt (Debian's package binaryen). rt ci proves lx_live and the crates below it
+# first, in a copy: in a minute where it has passed on this machine, else in up to an hour.
+set -euo pipefail
+top=$(cd "$(dirname "$(readlink -f "${BASH_SOURCE[0]}")")/.." && pwd)
+crate=lx_live
+made_by=(web/build.sh web/build/module.py web/build/retarget.py web/build/heap.c web/build/exports.c)
+
+# The crate and those below it, in the order of crates.txt.
+crates_in_all() {
+    awk -F: -v first="$crate" '
+        { sub(/#.*/, "") }
+        NF > 1 { split($1, head, " "); below[head[1]] = $2; order[++all] = head[1] }
+        function visit(name, names, count, at) {
+            if (!(name in below) || seen[name]++) return
+            count = split(below[name], names, " ")
+            for (at = 1; at <= count; at++) visit(names[at])
+        }
+        END { visit(first); for (at = 1; at <= all; at++) if (order[at] in seen) print order[at] }' "$top/crates.txt"
+}
+
+# A folder with these crates alone, in which rt ci leaves their libraries.
+copy_crates() {
+    local name
+    cp "$top/HANDLES" "$1"
+    for name in $(crates_in_all); do
+        mkdir -p "$1/crates/$name"
+        for part in src specs proofs; do
+            [ ! -d "$top/crates/$name/$part" ] || cp -r "$top/crates/$name/$part" "$1/crates/$name/"
+        done
+        grep -E "^$name( |:)" "$top/crates.txt" >> "$1/crates.txt"
+    done
+}
+
+# Runs a command whose words are shown only where it fails.
+quietly() {
+    "$@" > "$work/log" 2>&1 && return
+    tail -n 40 "$work/log" >&2
+    echo "build.sh: $* failed" >&2
+    return 1
+}
+
+sum_of() { sha256sum "$1" | cut -c1-64; }
+
+# Of the code alone, since proofs leave no trace in the module.
+sum_of_crate() { (cd "$top/crates/$1" && find src -type f | LC_ALL=C sort | xargs sha256sum | sha256sum | cut -c1-64); }
+
+# Lines `"NAME": "SUM"` of an object in JSON, for each name the sum that the call gives.
+members() {
+    local call=$1 comma='' name
+    shift
+    for name; do
+        printf '%s\n    "%s": "%s"' "$comma" "$name" "$("$call" "$name")"
+        comma=,
+    done
+}
+
+tell_origin() {
+    cd "$top"
+    printf '{\n  "commit": "%s",\n  "kit": "%s",\n  "binaryen": "%s",\n' \
+        "$(git rev-parse HEAD)" "$(rt version)" "$(wasm-opt --version)"
+    printf '  "crates": {%s\n  },\n' "$(members sum_of_crate $(crates_in_all))"
+    printf '  "made by": {%s\n  },\n' "$(members sum_of "${made_by[@]}")"
+    printf '  "LLVM module": "%s",\n  "lexical.wasm": "%s"\n}\n' "$(sum_of "$work/module.bc")" "$(sum_of "$work/lexical.wasm")"
+}
+
+for tool in rt wasm-opt git python3; do
+    command -v "$tool" > /dev/null || { echo "build.sh: $tool is not on the path" >&2; exit 1; }
+done
+if [ "${1:-}" != --check ] && [ -n "$(cd "$top" && git status --porcelain -- crates crates.txt "${made_by[@]}")" ]; then
+    echo 'build.sh: commit crates/ and web/build first: the module is told to be of a commit' >&2
+    exit 1
+fi
+work=$(mktemp -d)
+trap 'rm -rf "$work"' EXIT
+mkdir "$work/copy"
+copy_crates "$work/copy"
+kit=$(dirname "$(rt doc)")
+(cd "$work/copy" && quietly rt ci)
+quietly python3 "$top/web/build/module.py" "$kit" "$work/copy/crates/$crate" "$work/module.bc"
+quietly python3 "$top/web/build/retarget.py" "$kit" "$work/module.bc" "$work/lexical.wasm"
+if [ "${1:-}" = --check ]; then
+    cmp "$work/lexical.wasm" "$top/web/lexical.wasm"
+    echo 'build.sh: the same bytes'
+    exit
+fi
+tell_origin > "$work/origin"
+cp "$work/origin" "$top/web/lexical.wasm.json"
+cp "$work/lexical.wasm" "$top/web/lexical.wasm"
+echo "build.sh: $(stat -c %s "$top/web/lexical.wasm") bytes"
