@@ -4,8 +4,8 @@
 #     web/build.sh            makes both; what they are made of has to be committed
 #     web/build.sh --check    makes the module anew, and compares it with the one that is kept, byte for byte
 #
-# It takes the Rattle kit, with rt on the path, and wasm-opt (Debian's package binaryen). rt ci proves lx_live and the crates below it
-# first, in a copy: in a minute where it has passed on this machine, else in up to an hour.
+# It takes the Rattle kit, with rt on the path, and wasm-opt (Debian's package binaryen). rt ci proves lx_live and the
+# crates below it first, in a copy: in a minute where it has passed on this machine, else in up to an hour.
 set -euo pipefail
 top=$(cd "$(dirname "$(readlink -f "${BASH_SOURCE[0]}")")/.." && pwd)
 crate=lx_live
@@ -66,7 +66,8 @@ tell_origin() {
         "$(git rev-parse HEAD)" "$(rt version)" "$(wasm-opt --version)"
     printf '  "crates": {%s\n  },\n' "$(members sum_of_crate $(crates_in_all))"
     printf '  "made by": {%s\n  },\n' "$(members sum_of "${made_by[@]}")"
-    printf '  "LLVM module": "%s",\n  "lexical.wasm": "%s"\n}\n' "$(sum_of "$work/module.bc")" "$(sum_of "$work/lexical.wasm")"
+    printf '  "LLVM module": "%s",\n' "$(sum_of "$work/module.bc")"
+    printf '  "lexical.wasm": "%s"\n}\n' "$(sum_of "$work/lexical.wasm")"
 }
 
 for tool in rt wasm-opt git python3; do

@@ -1,5 +1,6 @@
-/* The module's exports around those of lx_live: 32-bit addresses and sizes, which JavaScript has as plain numbers, and a guard. A call
- * that traps leaves the memory half written, so each call after it traps too, as in the modules that the kit itself links. */
+/* The module's exports around those of lx_live: 32-bit addresses and sizes, which JavaScript has as plain numbers, and a
+ * guard. A call that traps leaves the memory half written, so each call after it traps too, as in the modules that the kit
+ * itself links. */
 typedef unsigned char u8;
 typedef unsigned int u32;
 typedef unsigned long long u64;
@@ -28,7 +29,8 @@ EXPORT(lx_live_open) u32 lx_live_open(u32 slot, u32 tells_view, double delay) {
 
 /* The length is written as 8 bytes, the lowest first. */
 EXPORT(lx_live_line) u32 lx_live_line(u32 slot, u32 line, u32 line_length, u32 output, u32 output_length, u32 length) {
-    GUARDED(u32 told = lx_live_line_inner(AT(slot), AT(line), line_length, AT(output), output_length, AT(length)));
+    GUARDED(u32 told =
+                lx_live_line_inner(AT(slot), AT(line), line_length, AT(output), output_length, AT(length)));
     return told;
 }
 

@@ -1,9 +1,10 @@
 /* The heap of the module: rattle_alloc, rattle_realloc and rattle_dealloc of the kit's libc::heap, where no C library is.
  *
- * Each block has a header of 16 bytes with its class. Classes go up in four steps between two powers of two, so a block has at most a
- * quarter more than was asked. A free block goes to the list of its class, and no two are joined. Fresh bytes are cut off the end of the
- * memory, which grows by memory.grow; where it can't grow, they are cut off the largest free block. So a block is aligned to 16, and the
- * heap does what the kit's guide UNSAFE.md asks of malloc, realloc and free. Addresses have 64 bits here, and are below 2^32. */
+ * Each block has a header of 16 bytes with its class. Classes go up in four steps between two powers of two, so a block has
+ * at most a quarter more than was asked. A free block goes to the list of its class, and no two are joined. Fresh bytes are
+ * cut off the end of the memory, which grows by memory.grow; where it can't grow, they are cut off the largest free block.
+ * So a block is aligned to 16, and the heap does what the kit's guide UNSAFE.md asks of malloc, realloc and free. Addresses
+ * have 64 bits here, and are below 2^32. */
 typedef unsigned char u8;
 typedef unsigned int u32;
 typedef unsigned long long u64;
@@ -55,7 +56,7 @@ static void put_in_list(struct head *block) {
     free_lists[block->class] = block;
 }
 
-/* Puts what is left of the fresh bytes to the free blocks: the largest class that fits. What is behind that is lost. */
+/* Puts what is left of the fresh bytes to the free blocks: the largest class that fits. What is after that is lost. */
 static void put_rest_away(void) {
     u64 rest = fresh_end - fresh_at;
     if (rest < HEAD + 16)
@@ -68,7 +69,8 @@ static void put_rest_away(void) {
     put_in_list(block);
 }
 
-/* Whether the memory has so many pages more. That it can't grow is told as -1 of 32 bits, or of 64 before the addresses are lowered. */
+/* Gives the memory so many pages more, if it can. That it can't is told as -1 of 32 bits, or of 64 before the addresses are
+ * lowered. */
 static _Bool grows_by(u64 pages) {
     return pages <= MOST_PAGES && (u32)memory_grow(pages) != (u32)-1;
 }

@@ -2,9 +2,11 @@
 
     module.py KIT CRATE MODULE.bc
 
-The kit hands that module to the clang of the toolchain folder that it is given. Here that folder is one of links, with a clang that
-copies the module before it calls the kit's own. The crate is proved again first, over the libraries below it that stand in their out/.
+The kit hands that module to the clang of the toolchain folder that it is given. Here that folder is one of links, with a
+clang that copies the module before it calls the kit's own. The crate is proved again first, over the libraries below it
+that stand in their out/.
 """
+import importlib
 import pathlib
 import subprocess
 import sys
@@ -33,8 +35,7 @@ def toolchain_that_keeps(module: pathlib.Path, toolchain: pathlib.Path, to: path
 def main() -> None:
     kit, crate, module = (pathlib.Path(word).resolve() for word in sys.argv[1:])
     sys.path.insert(0, str(kit / 'bin'))
-    import rtlib  # the kit's own: it knows the words that a crate is built with
-
+    rtlib = importlib.import_module('rtlib')  # the kit's own: it knows the words that a crate is built with
     words = rtlib.Crate(str(crate), str(crate.parents[1]), {}).words(['--jobs', '2'], keeps=False)
     with tempfile.TemporaryDirectory() as folder:
         toolchain = pathlib.Path(folder) / 'toolchain'

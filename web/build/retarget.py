@@ -2,9 +2,10 @@
 
     retarget.py KIT MODULE.bc OUT.wasm
 
-The kit's own way to WebAssembly refuses calls of the heap. So the module for x86-64 gets another target: its triple and data layout, no
-attributes of a processor, and one intrinsic of x86 spelled in scalars. clang, llvm-ar and rattle-link are the kit's. Its addresses
-have 64 bits, which few engines know, so Binaryen's wasm-opt lowers them to 32 bits and optimizes once more.
+The kit's own way to WebAssembly refuses calls of the heap. So the module for x86-64 gets another target: its triple and
+data layout, no attributes of a processor, and one intrinsic of x86 spelled in scalars. clang, llvm-ar and rattle-link are
+the kit's. Its addresses have 64 bits, which few engines know, so Binaryen's wasm-opt lowers them to 32 bits and optimizes
+once more.
 """
 import pathlib
 import re
@@ -15,21 +16,28 @@ import tempfile
 HERE = pathlib.Path(__file__).resolve().parent
 STACK_BYTES = 1 << 20
 LAYOUT = 'e-m:e-p:64:64-p10:8:8-p20:8:8-i64:64-i128:128-n32:64-S128-ni:1:10:20'
-TARGET = ['--target=wasm64-unknown-unknown', '-mcpu=lime1', '--no-default-config', '-no-canonical-prefixes', '-fno-crash-diagnostics',
-          '-Werror', '-O3']
+TARGET = ['--target=wasm64-unknown-unknown', '-mcpu=lime1', '--no-default-config', '-no-canonical-prefixes',
+          '-fno-crash-diagnostics', '-Werror', '-O3']
 # What the kit itself tells its clang for WebAssembly.
-AS_THE_KIT = [word for flag in ('expand-div-rem-bits=64', 'expand-fp-convert-bits=64', 'trap-unreachable', 'no-x86-call-frame-opt',
-                                'disable-machine-licm', 'disable-postra-machine-licm', 'sink-common-insts=false')
-              for word in ('-mllvm', '-' + flag)] + ['-ffunction-sections', '-fdata-sections', '-fintegrated-cc1']
+LOWERING = ('expand-div-rem-bits=64', 'expand-fp-convert-bits=64', 'trap-unreachable', 'no-x86-call-frame-opt',
+            'disable-machine-licm', 'disable-postra-machine-licm', 'sink-common-insts=false')
+AS_THE_KIT = ['-ffunction-sections', '-fdata-sections', '-fintegrated-cc1',
+              *(word for flag in LOWERING for word in ('-mllvm', '-' + flag))]
+AS_TEXT = ['--target=x86_64-unknown-linux-gnu', '-O0', '-Xclang', '-disable-llvm-passes', '-S', '-emit-llvm',
+           '-x', 'ir']
 OF_C = ['-ffreestanding', '-fno-builtin', '-nostdinc', '-Wall']
-FEATURES = ['--enable-' + it for it in ('bulk-memory', 'sign-ext', 'nontrapping-float-to-int', 'multivalue', 'mutable-globals')]
+FEATURES = ['--enable-' + it for it in ('bulk-memory', 'sign-ext', 'nontrapping-float-to-int', 'multivalue',
+                                        'mutable-globals')]
 X86_SHUFFLE = '@llvm.x86.ssse3.pshuf.b.128('
 # Sections of a WebAssembly module, by their numbers.
 CUSTOM, TABLE, ELEMENT = 0, 4, 9
 
 
 def shuffle_in_scalars() -> str:
-    """The shuffle of x86, a byte at a time: byte i is that of %a at the low four bits of byte i of %at, or 0 where its top bit is set."""
+    """The shuffle of x86, a byte at a time.
+
+    Byte i is that of %a at the low four bits of byte i of %at, or 0 where the top bit of that is set.
+    """
     lines = ['  %from = alloca [16 x i8], align 16', '  store <16 x i8> %a, ptr %from, align 16']
     result = 'zeroinitializer'
     for i in range(16):
@@ -42,8 +50,8 @@ def shuffle_in_scalars() -> str:
                   f'  %v{i} = select i1 %h{i}, i8 0, i8 %l{i}',
                   f'  %r{i} = insertelement <16 x i8> {result}, i8 %v{i}, i32 {i}']
         result = f'%r{i}'
-    body = '\n'.join(lines)
-    return f'\ndefine internal <16 x i8> @shuffle_bytes(<16 x i8> %a, <16 x i8> %at) noinline nounwind {{\n{body}\n  ret <16 x i8> {result}\n}}\n'
+    head = 'define internal <16 x i8> @shuffle_bytes(<16 x i8> %a, <16 x i8> %at) noinline nounwind {'
+    return '\n'.join(['', head, *lines, f'  ret <16 x i8> {result}', '}', ''])
 
 
 def retargeted(text: str) -> str:
@@ -92,14 +100,14 @@ def run(tool: pathlib.Path | str, *words: pathlib.Path | str) -> None:
 def linked(kit: pathlib.Path, module: pathlib.Path, at: pathlib.Path, out: pathlib.Path) -> None:
     """Compiles the module and the C files, and links them."""
     clang, source = kit / 'toolchain/bin/clang', at / 'module.ll'
-    run(clang, '--target=x86_64-unknown-linux-gnu', '-O0', '-Xclang', '-disable-llvm-passes', '-S', '-emit-llvm', '-x', 'ir', module, '-o', source)
+    run(clang, *AS_TEXT, module, '-o', source)
     source.write_text(retargeted(source.read_text()))
     run(clang, *TARGET, *AS_THE_KIT, '-c', '-x', 'ir', source, '-o', at / 'module.o')
     for name in ('heap', 'exports'):
         run(clang, *TARGET, *OF_C, '-c', HERE / f'{name}.c', '-o', at / f'{name}.o')
     run(kit / 'toolchain/bin/llvm-ar', 'rcs', at / 'library.a', at / 'module.o', at / 'heap.o', at / 'exports.o')
-    run(kit / 'bin/rattle-link', '--target', 'wasm64-unknown-unknown', '--toolchain', kit / 'toolchain', '--stack', str(STACK_BYTES),
-        '-o', out, at / 'library.a')
+    run(kit / 'bin/rattle-link', '--target', 'wasm64-unknown-unknown', '--toolchain', kit / 'toolchain',
+        '--stack', str(STACK_BYTES), '-o', out, at / 'library.a')
 
 
 def lowered(wide: pathlib.Path, out: pathlib.Path) -> None:
