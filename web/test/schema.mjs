@@ -4,9 +4,9 @@ import { readFileSync } from 'node:fs';
 import { join } from 'node:path';
 import { top } from './helper.mjs';
 
-const schema = JSON.parse(readFileSync(join(top, 'examples', 'lines.schema.json'), 'utf8'));
-const lines = { anyOf: schema.anyOf.filter(({ $ref }) => !['#/$defs/hub', '#/$defs/ask'].includes($ref)) };
-const resolved = node => node.$ref ? resolved(schema.$defs[node.$ref.slice('#/$defs/'.length)]) : node;
+export const schema = JSON.parse(readFileSync(join(top, 'examples', 'lines.schema.json'), 'utf8'));
+export const lines = { anyOf: schema.anyOf.filter(({ $ref }) => !['#/$defs/hub', '#/$defs/ask'].includes($ref)) };
+export const resolved = node => node.$ref ? resolved(schema.$defs[node.$ref.slice('#/$defs/'.length)]) : node;
 const replaced = (row, at, value) => row.map((item, index) => index === at ? value : item);
 const without = (object, name) => Object.fromEntries(Object.entries(object).filter(([member]) => member !== name));
 
