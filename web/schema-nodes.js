@@ -42,8 +42,8 @@ function nodeOf(name) {
  */
 function link(entry) {
   if (typeof entry === 'string') return nodeOf(entry);
-  if ('words' in entry) return textWith(entry.words, Infinity, inWords(entry.words.map(word => JSON.stringify(word))));
-  if ('longest' in entry) return textWith(null, entry.longest, `a string of at most ${entry.longest} UTF-16 code units`);
+  if ('words' in entry) return textWith(entry.words, Infinity, inWords(entry.words.map(quoted)));
+  if ('longest' in entry) return textWith(null, entry.longest, `a string of up to ${entry.longest} UTF-16 code units`);
   if ('least' in entry) return { type: 'number', ...entry, asked: rangeInWords(entry) };
   if ('list' in entry) return { type: 'array', item: link(entry.list), row: [], asked: 'a list' };
   if ('row' in entry) return rowOf(entry.row.map(link));
@@ -66,7 +66,8 @@ function textWith(words, longest, asked) {
  * @returns {List}
  */
 function rowOf(row) {
-  return { type: 'array', item: null, row, asked: `a list of ${row.length} (${row.map(node => node.asked).join('; ')})` };
+  const asked = `a list of ${row.length} (${row.map(node => node.asked).join('; ')})`;
+  return { type: 'array', item: null, row, asked };
 }
 
 /**
@@ -96,7 +97,12 @@ function choiceOf(entries) {
   const forms = singles.flatMap(node => node.type === 'object' ? [node] : []);
   const named = new Map(forms.map(form => [form.needs[0], namedBy(form.needs[0], forms)]));
   const of = new Map(singles.map(node => [node.type, node]));
-  return { type: 'choice', of, named, asked: inWords([...new Set(singles.map(node => node.asked))]) };
+  return { type: 'choice', of, named, asked: inWords([...new Set(singles.flatMap(askedOf))]) };
+}
+
+/** @param {Single} node */
+function askedOf(node) {
+  return node.type === 'string' && node.words ? [...node.words].map(quoted) : [node.asked];
 }
 
 /**
@@ -121,7 +127,12 @@ function namedBy(name, all) {
     const node = form.members.get(name);
     if (node?.type === 'string') node.words?.forEach(word => words.set(word, form));
   }
-  return { forms, words, asked: inWords([...words.keys()].map(word => JSON.stringify(word))) };
+  return { forms, words, asked: inWords([...words.keys()].map(quoted)) };
+}
+
+/** @param {string} word */
+function quoted(word) {
+  return JSON.stringify(word);
 }
 
 /** @param {{ least: number, most: number }} range */

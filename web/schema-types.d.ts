@@ -16,7 +16,7 @@ export type Entry =
   | { row: Entry[] }
   | Members;
 
-/** What an object has, beside what the one has that it is like. The first name that it needs is that by which it is known. */
+/** What an object has, beside what the one has that it is like. It is known by the first name that it needs. */
 export interface Members {
   has: { [name: string]: Entry };
   needs?: string[];

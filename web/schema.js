@@ -134,7 +134,8 @@ function checkNamed(named, value, found) {
   const names = namesIn(value);
   const forms = names.flatMap(name => formsOf(named.get(name), value[name]));
   if (forms.length === 0) {
-    found.add(`one of the members ${inWords([...named.keys()])} is asked for`);
+    const asked = [...named.keys()];
+    found.add(asked.length === 1 ? missing(asked[0]) : `one of the members ${inWords(asked)} is asked for`);
     return;
   }
   const form = forms.length === 1 ? forms[0] : nearestOf(forms, names);
@@ -195,8 +196,9 @@ function othersIn({ members, isOpen }, names) {
  * @param {Found} found
  */
 function checkForm(form, value, found, names = namesIn(value)) {
-  for (const name of othersIn(form, names)) found.addAt(name, onlyOf(form));
-  for (const name of missingIn(form, names)) found.add(`the member ${name} is missing`);
+  const others = othersIn(form, names), only = others.length > 0 ? onlyOf(form) : '';
+  for (const name of others) found.addAt(name, only);
+  for (const name of missingIn(form, names)) found.add(missing(name));
   for (const name of names) {
     const node = form.members.get(name);
     if (!node) continue;
@@ -204,6 +206,11 @@ function checkForm(form, value, found, names = namesIn(value)) {
     check(node, value[name], found);
     found.path.pop();
   }
+}
+
+/** @param {string} name */
+function missing(name) {
+  return `the member ${name} is missing`;
 }
 
 /** @param {Form} form */

@@ -97,7 +97,7 @@ function shorten(node, others) {
   node.like = like[0];
 }
 
-/** A value as JavaScript, where `before` characters are in front of it, and one behind. What fits in a line is in one. */
+/** A value as JavaScript, with `before` characters in front of it, and one behind. What fits in a line is in one. */
 function written(value, indent, before) {
   const whole = inOneLine(value);
   if (indent.length + before + whole.length + 1 <= WIDTH || typeof value !== 'object') return whole;

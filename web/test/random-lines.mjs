@@ -4,7 +4,7 @@ import { lines, resolved, schema } from './schema.mjs';
 const DEEPEST = 12; // deeper lists are empty
 const GREATEST = 2 ** 64 - 2048; // the greatest number below 2 to the power of 64 that JavaScript has
 
-const texts = ['', 'a', 'zz', '0', '@anchor', '@focus', '@block', '@payload', 'x'.repeat(300), '\u{1f600}', '/~"\\\n\u0000'];
+const texts = ['', 'a', 'zz', '0', '@anchor', '@block', '@payload', 'x'.repeat(257), '\u{1f600}', '/~"\\\n\u0000'];
 const payloads = ['back', 'forward', 'bold', 'bullet', 'before', 'after', '{"nodes":[]}', 'undo', 'insert-text', 'cut'];
 const strange = ['__proto__', 'constructor', 'toString', 'toJSON', 'length', 'kind', 'zz', '', '0', 'a/b~c'];
 const numbers = [
@@ -30,8 +30,15 @@ export function seeded(seed) {
 const oneOf = (random, list) => list[random(list.length)];
 const isObject = value => typeof value === 'object' && value !== null && !Array.isArray(value);
 
-/** A line that fits. */
-export const randomLine = random => fittingValue(lines, random, 0);
+/** A line that fits. Forms with more within come more often. */
+export const randomLine = random => fittingValue(oneOf(random, forms), random, 0);
+
+const often = { update: 6, rule_line: 6, listener_line: 2 };
+const forms = lines.anyOf.flatMap(form => Array(often[nameOf(form)] ?? 1).fill(form));
+
+function nameOf({ $ref }) {
+  return $ref.slice('#/$defs/'.length);
+}
 
 function fittingValue(reference, random, depth) {
   const node = resolved(reference);
@@ -101,7 +108,8 @@ const withMembers = (value, more) => Object.fromEntries([...Object.entries(value
 
 /** The line with one thing changed at a random place. Most changes make it one that doesn't fit. */
 export function changed(line, random) {
-  const path = oneOf(random, placesIn(line, []));
+  const [whole, ...places] = placesIn(line, []);
+  const path = random(50) === 0 ? whole : oneOf(random, places);
   if (path.length > 0 && random(8) === 0) return renamedAt(line, path, oneOf(random, names));
   const change = changes[oneOf(random, Object.keys(changes))];
   return path.length === 0 ? change(line, random) ?? null : changedAt(line, path, value => change(value, random));
