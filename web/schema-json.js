@@ -4,8 +4,8 @@ const DEEPEST = 127; // lists and objects in each other
 const HALF = /[\ud800-\udfff]/u; // by `u` whole pairs are one character, which is none of these
 
 /**
- * What is wrong with the first value that can't be in a line, whatever its form is; null if there is none. The path gets
- * the names and indexes on the way to it. A member that is undefined isn't there, as in `JSON.stringify`.
+ * What is wrong with the first value that can't be in a line, whatever its form is; null if there is none. The path
+ * gets the names and indexes on the way to it. A member that is undefined isn't there, as in `JSON.stringify`.
  * @param {unknown} value
  * @param {(string | number)[]} path
  * @returns {string | null}

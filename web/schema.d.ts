@@ -10,24 +10,25 @@ export interface Problem {
 }
 
 export interface SchemaOptions {
-  /** Whether lines about views and outlines (`hub`, `ask`) fit too. Only the program takes them. By default they don't. */
+  /** Whether lines about views and outlines (`hub`, `ask`) fit too, which only the program takes. By default not. */
   layers?: boolean;
 }
 
 /**
- * What is wrong with a line, the most helpful first: `[]` if it fits. Of several forms that a line, a step or a rule may
- * have, the problems are those of the form that its members name.
+ * What is wrong with a line, the most helpful first: `[]` if it fits. Of several forms that a line, a step or a rule
+ * may have, the problems are those of the form that its members name.
  *
- * It is about the JSON that `JSON.stringify` writes of the line. So a member that is undefined isn't there. What JSON has
- * no value for is a problem, even where something else would be written: NaN, a function, a Map, or a Date, which has a
- * toJSON.
+ * It is about the JSON that `JSON.stringify` writes of the line. So a member that is undefined isn't there. What JSON
+ * has no value for is the only problem then, even where something else would be written: NaN, undefined in a list, a
+ * function, a Map, or a Date, which has a toJSON.
  *
  * A line that fits is never refused as `BadLine`, nor as `BadCommand` for its form, and any other always is. But this
  * can't say:
- * - that `1.0`, `1e3` and `-0` are no whole numbers in the JSON of a line: in JavaScript they are the same as 1, 1000 and 0;
+ * - that `1.0`, `1e3` and `-0` are no whole numbers in JSON from elsewhere: `JSON.parse` makes 1, 1000 and 0 of them;
+ * - that of equal members of an object the last one counts: `JSON.parse` drops the others;
  * - that a line has at most 16,777,216 bytes;
  * - what payloads built-in commands take, which may be known only as a line runs: listeners may handle the command, or
- *   give it theirs. Any other payload than these is refused as `BadCommand`:
+ *   give it theirs. Any other payload than these is refused as `BadCommand` when the command is reached:
  *   - `insert-text`: a string;
  *   - `delete-character`, `delete-word`: `back` or `forward`;
  *   - `format-text`: `bold`, `italic`, `strikethrough`, `underline`, `code`, `subscript`, `superscript` or `highlight`;
@@ -36,8 +37,8 @@ export interface SchemaOptions {
  *   - `insert-table`: `[rows, columns, headers]`;
  *   - `insert-row`, `insert-column`: `before` or `after`;
  *   - `undo`, `redo`, `remove-text`, `insert-paragraph`, `insert-line-break`, `insert-tab`, `select-all`, `cut`,
- *     `remove-list`, `indent`, `outdent`, `toggle-checked`, `delete-row`, `delete-column`, `merge-cells`, `unmerge`: none,
- *     or null.
+ *     `remove-list`, `indent`, `outdent`, `toggle-checked`, `delete-row`, `delete-column`, `merge-cells`, `unmerge`:
+ *     none, or null.
  */
 export function problemsOf(line: unknown, options?: SchemaOptions): Problem[];
 

@@ -132,7 +132,12 @@ function typeOf(value) {
  */
 function checkNamed(named, value, found) {
   const names = namesIn(value);
-  const forms = names.flatMap(name => formsOf(named.get(name), value[name]));
+  /** @type {Form[]} */
+  const forms = [];
+  for (const name of names) {
+    const group = named.get(name);
+    if (group) forms.push(...formsOf(group, value[name]));
+  }
   if (forms.length === 0) {
     const asked = [...named.keys()];
     found.add(asked.length === 1 ? missing(asked[0]) : `one of the members ${inWords(asked)} is asked for`);
@@ -147,12 +152,11 @@ function checkNamed(named, value, found) {
 
 /**
  * The forms that a member may name by its value. Where that is no word of any, the first stands for all.
- * @param {Named | undefined} named
+ * @param {Named} named
  * @param {unknown} word
  */
-function formsOf(named, word) {
-  if (!named) return [];
-  return named.words.size === 0 ? named.forms : [named.words.get(word) ?? named.forms[0]];
+function formsOf({ words, forms }, word) {
+  return words.size === 0 ? forms : [words.get(word) ?? forms[0]];
 }
 
 /**
