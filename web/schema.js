@@ -109,7 +109,7 @@ function isMembers(value) {
  * @param {Found} found
  */
 function checkChoice({ of, named, asked }, value, found) {
-  const single = of.get(typeOf(value)) ?? of.get('any');
+  const single = of.get(typeOf(value));
   if (!single) found.add(`${asked} is asked for`);
   else if (single.type === 'object') checkNamed(named, /** @type {Members} */ (value), found);
   else check(single, value, found);
