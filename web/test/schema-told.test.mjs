@@ -79,7 +79,7 @@ const escaped = name => name.replace(/~/g, '~0').replace(/\//g, '~1');
 
 test('of one wrong thing it is said first where it is, or in what', () => {
   const random = seeded(2);
-  const said = Array.from({ length: 5000 }, () => {
+  const said = Array.from({ length: 2000 }, () => {
     const line = randomLine(random), other = changed(line, random);
     const [problem] = problemsOf(other);
     if (!problem) return [];
@@ -88,7 +88,7 @@ test('of one wrong thing it is said first where it is, or in what', () => {
     return [[isNear, place, problem, JSON.stringify(other).slice(0, 500)]];
   }).flat();
   assert.deepEqual(said.filter(([isNear]) => !isNear), []);
-  assert.ok(said.length > 3000, `${said.length} lines`);
+  assert.ok(said.length > 1200, `${said.length} lines`);
 });
 
 test('lines about views and outlines fit if they are asked for', () => {
@@ -126,9 +126,9 @@ test('a line that must fit throws what is wrong with it', () => {
 test('small lines are checked fast, and long ones in a time that goes with their length', () => {
   const began = process.cpuUsage();
   const line = { update: [{ select: { anchor: [2, 1, 'text'], focus: [2, 2, 'text'] } }] };
-  for (let count = 0; count < 50_000; count++) problemsOf(line);
-  problemsOf({ update: Array(100_000).fill({ append: 1 }) });
-  problemsOf(Object.fromEntries(Array.from({ length: 100_000 }, (_, index) => [`a${index}`, index])));
+  for (let count = 0; count < 20_000; count++) problemsOf(line);
+  problemsOf({ update: Array(50_000).fill({ append: 1 }) });
+  problemsOf(Object.fromEntries(Array.from({ length: 50_000 }, (_, index) => [`a${index}`, index])));
   const { user } = process.cpuUsage(began);
-  assert.ok(user < 4e6, `${user} microseconds of the processor`);
+  assert.ok(user < 2e6, `${user} microseconds of the processor`);
 });

@@ -91,11 +91,11 @@ function leadsIn(value, path) {
   });
 }
 
-/** The same line with a number above 1, which is at the end of its range, a little greater, or another value. */
+/** The same line with a number above 1, which is at the end of its range, a little greater, or below 0. */
 function withOtherNumbers(json) {
   const numbers = json.match(/(?<=[:[,])\d+(?=[\],}])/g) ?? [];
   const great = numbers.filter(number => Number(number) > 1);
-  return great.flatMap(number => [Number(number) + 1, Number(number) * 1.0001, -1, 1e300, null].map(other => {
+  return great.flatMap(number => [Number(number) + 1, Number(number) * 1.0001, -1].map(other => {
     return json.replace(new RegExp(`(?<=[:[,])${number}(?=[\\],}])`), JSON.stringify(other));
   }));
 }
