@@ -1,0 +1,57 @@
+import type { Lexical } from './lexical.js';
+import type { Line, Selection } from './lines.js';
+import type { Refusal, Reply } from './replies.js';
+
+/** What brings lines to an editor, such as a request to a server, and its replies back: one for each line, in order. */
+export interface Carrier {
+  /** Where it fails halfway, its error may have the `replies` that it has got: they are passed on before it. */
+  send(lines: readonly Line[]): readonly Reply[] | Promise<readonly Reply[]>;
+}
+
+export interface SessionOptions {
+  /** The time in milliseconds: `Date.now` if left out. */
+  now?: () => number;
+  /** Gets each reply in order, with the line as it was sent, also of lines that the session adds. */
+  onReply?: (reply: Reply, line: Line) => void;
+}
+
+/**
+ * What a person does, one act after another.
+ *
+ *     let selection = null;
+ *     const session = new Session(carrierOf(editor), { onReply(reply) {
+ *       if (reply.ops) view.apply(reply.ops);
+ *       if (reply.selection !== undefined) selection = reply.selection;
+ *     } });
+ *     await session.do({ dispatch: 'insert-text', payload: 'a' }, selectionIn(view, getSelection()));
+ *     if (!session.isBusy) show(view, selection);
+ */
+export class Session {
+  constructor(carrier: Carrier, options?: SessionOptions);
+
+  /**
+   * Sends the lines of an act after those of all earlier acts, and answers their replies. Each line without a moment gets
+   * that of the call, and no moment falls. After lines that may have changed what is selected, the core is asked for it.
+   *
+   * What is selected, if it is given, is sent first where it differs from what the core has, but not where it is what the
+   * page showed already at an earlier act that waits: that one moves it. If it is refused, the lines aren't sent, and each
+   * is answered with that refusal.
+   *
+   * A refused line stops no other. An error of the carrier rejects the act; those behind are sent, but after a code
+   * `closed`, `broken` or `spent`, with which all are rejected. An error that `onReply` throws rejects the act too, once
+   * all its replies have been passed on.
+   */
+  do(lines: Line | readonly Line[], selected?: Selection | null): Promise<Reply[]>;
+
+  /** Waits until no act does. */
+  idle(): Promise<void>;
+
+  /** Whether an act waits or is under way. */
+  get isBusy(): boolean;
+}
+
+/** An editor as a carrier. */
+export function carrierOf(editor: Lexical): Carrier;
+
+/** Why a line was refused, as a sentence for a reader. */
+export function explain(refusal: Refusal): string;
