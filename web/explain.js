@@ -61,6 +61,7 @@ function oneOf(named, name) {
 export function explain(refusal) {
   if (typeof refusal !== 'object' || refusal === null) throw new TypeError('a refusal is an object');
   const { cause, detail } = refusal;
-  const said = Object.hasOwn(sentences, cause) && /** @type {(detail: any) => string | undefined} */ (sentences[cause])(detail);
-  return said || "This can't be done.";
+  /** @type {((detail: any) => string | undefined) | undefined} */
+  const say = Object.hasOwn(sentences, cause) ? sentences[cause] : undefined;
+  return say?.(detail) ?? "This can't be done.";
 }

@@ -94,7 +94,7 @@ function backOf(text, other) {
 // ---- points among children
 
 /**
- * A point stays right behind the child that it was behind. Where that one went, it has to be clear what it is behind now.
+ * A point stays right behind the child that it was behind. Where that one went, what it is behind now has to be clear.
  * @param {Host} host
  * @param {NodeAfter} after
  * @param {number} offset

@@ -114,10 +114,16 @@ export class NodeAfter {
    * @param {number} id
    */
   #isThere(id) {
+    const top = this.#hosts.root.id;
+    /** @type {Set<number>} */
+    const passed = new Set();
     /** @type {number | null} */
     let at = id;
-    while (at !== null && at !== this.#hosts.root.id && !this.#dropped.has(at)) at = this.#parentOf(at);
-    return at === this.#hosts.root.id;
+    for (; at !== null && at !== top && !this.#dropped.has(at); at = this.#parentOf(at)) {
+      if (passed.has(at)) throw new ContentError('operation', `host ${at} is put below itself`);
+      passed.add(at);
+    }
+    return at === top;
   }
 
   /**

@@ -18,8 +18,8 @@ export class Selected {
   #waiting = 0;
 
   /**
-   * Whether the selection that comes with a new act is another one than the page showed: while replies are out, it still
-   * shows the one from before the acts that wait, and that isn't to be selected again.
+   * Whether the selection that comes with a new act is another one than the page showed. While replies are out, it
+   * still shows the one from before the acts that wait, and that isn't to be selected again.
    * @param {Selection} selection
    */
   hasMoved(selection) {

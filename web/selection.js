@@ -87,8 +87,8 @@ function isBehind(view, host, text, node, offset) {
 function childrenBefore(view, host, node, offset) {
   let behind = nodeBehind(view, host, node, offset);
   for (; behind !== null; behind = behind.nextSibling) {
-    const shown = view.hostAround(behind); // of an ending, which no host shows, the host itself
-    if (shown !== null && shown !== host) return indexOf(shown);
+    const shown = view.hostAround(behind); // of an ending, or of what isn't of the view, the host itself
+    if (shown !== null && shown.parent === host) return indexOf(shown);
   }
   return host.children.length;
 }

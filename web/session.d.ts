@@ -30,16 +30,17 @@ export class Session {
   constructor(carrier: Carrier, options?: SessionOptions);
 
   /**
-   * Sends the lines of an act after those of all earlier acts, and answers their replies. Each line without a moment gets
-   * that of the call, and no moment falls. After lines that may have changed what is selected, the core is asked for it.
+   * Sends the lines of an act after those of all earlier acts, and answers their replies. Each line without a moment
+   * gets that of the call, and no such moment is before an earlier one. After lines that may have changed what is
+   * selected, the core is asked for it: `onReply` gets the answer.
    *
-   * What is selected, if it is given, is sent first where it differs from what the core has, but not where it is what the
-   * page showed already at an earlier act that waits: that one moves it. If it is refused, the lines aren't sent, and each
-   * is answered with that refusal.
+   * What is selected, if it is given, is sent first where it differs from what the core has. While acts wait, the page
+   * may still show what was selected before them: that isn't sent again. If a selection is refused, the lines aren't
+   * sent, since they were meant for another place; each is answered with that refusal.
    *
-   * A refused line stops no other. An error of the carrier rejects the act; those behind are sent, but after a code
-   * `closed`, `broken` or `spent`, with which all are rejected. An error that `onReply` throws rejects the act too, once
-   * all its replies have been passed on.
+   * A refused line stops no other. An error of the carrier rejects the act, and later acts are sent all the same. After
+   * an error with the code `closed`, `broken` or `spent` all acts are rejected with it. An error that `onReply` throws
+   * rejects the act too, once all its replies have been passed on.
    */
   do(lines: Line | readonly Line[], selected?: Selection | null): Promise<Reply[]>;
 

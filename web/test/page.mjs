@@ -90,7 +90,8 @@ export class PageSelection {
   }
 
   removeAllRanges() {
-    Object.assign(this, { anchorNode: null, anchorOffset: 0, focusNode: null, focusOffset: 0, changes: this.changes + 1 });
+    const { changes } = this;
+    Object.assign(this, { anchorNode: null, anchorOffset: 0, focusNode: null, focusOffset: 0, changes: changes + 1 });
   }
 }
 

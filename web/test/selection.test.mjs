@@ -10,9 +10,11 @@ const core = await newCore();
 
 const text = (words, format = 0) => ({ type: 'text', text: words, format });
 const element = (type, ...children) => ({ type, children });
-const paragraph = (...words) => element('paragraph', ...words.map(word => typeof word === 'string' ? text(word) : word));
+const paragraph = (...parts) => element('paragraph', ...parts.map(part => part.type ? part : text(part)));
 const item = (...children) => element('listitem', ...children);
 const cell = (...children) => element('tablecell', ...children);
+
+const embed = { type: 'embed', src: 'x' }, rule = { type: 'horizontalrule' };
 
 /** An editor with a document, drawn into a page. */
 function drawn(...children) {
@@ -45,13 +47,13 @@ test('a place in a text is an offset in UTF-16', () => {
   assert.deepEqual(selected(view, [[0, 0], 1]), range([2, 4, 'text']));
   assert.deepEqual(selected(view, [[0, 1, 0, 0], 4]), range([3, 4, 'text']));
   for (const [way, offset] of [[[0, 1], 0], [[0, 1, 0], 0]]) {
-    assert.deepEqual(selected(view, [way, offset]), range([3, 0, 'text']), 'before the text, in the outer element or the inner');
+    assert.deepEqual(selected(view, [way, offset]), range([3, 0, 'text']), 'in the outer element or the inner');
     assert.deepEqual(selected(view, [way, 1]), range([3, 4, 'text']));
   }
 });
 
 test('a place between children is their number, and one in a leaf is beside it', () => {
-  const { view } = drawn(paragraph('a', { type: 'linebreak' }, { type: 'embed', src: 'x' }), { type: 'horizontalrule' });
+  const { view } = drawn(paragraph('a', { type: 'linebreak' }, embed), rule);
   for (const offset of [0, 1, 2, 3]) assert.deepEqual(selected(view, [[0], offset]), range([1, offset, 'element']));
   assert.deepEqual(selected(view, [[0], 4]), range([1, 3, 'element']), 'behind the ending');
   assert.deepEqual(selected(view, [[0, 1], 0]), range([1, 1, 'element']));
@@ -62,21 +64,23 @@ test('a place between children is their number, and one in a leaf is beside it',
 
 test('the ending of an empty block is in it', () => {
   const { view } = drawn(paragraph());
-  for (const place of [[[0], 0], [[0], 1], [[0, 0], 0]]) assert.deepEqual(selected(view, place), range([1, 0, 'element']));
+  for (const place of [[[0], 0], [[0], 1], [[0, 0], 0]]) {
+    assert.deepEqual(selected(view, place), range([1, 0, 'element']));
+  }
 });
 
 test("what isn't of the view is in front of its host's text or behind it, and outside is null", () => {
-  const { view, page } = drawn(paragraph('ab'), paragraph({ type: 'embed', src: 'x' }));
-  const [host, embed] = [nodeAt(view, 0, 0), nodeAt(view, 1, 0)];
-  const front = host.insertBefore(page.createTextNode('xy'), host.firstChild), back = host.appendChild(page.createTextNode('z'));
-  const player = embed.appendChild(page.createElement('b'));
+  const { view, page } = drawn(paragraph('ab'), paragraph(embed));
+  const [host, shown] = [nodeAt(view, 0, 0), nodeAt(view, 1, 0)];
+  const front = host.insertBefore(page.createTextNode('xy'), host.firstChild);
+  const back = host.appendChild(page.createTextNode('z')), player = shown.appendChild(page.createElement('b'));
   const at = (anchorNode, anchorOffset) =>
     selectionIn(view, { anchorNode, anchorOffset, focusNode: anchorNode, focusOffset: anchorOffset });
   assert.deepEqual([at(front, 0), at(front, 2), at(back, 1)], [0, 0, 2].map(offset => range([2, offset, 'text'])));
-  assert.deepEqual([at(player, 0), at(embed, 1)], [0, 1].map(offset => range([3, offset, 'element'])));
+  assert.deepEqual([at(player, 0), at(shown, 1)], [0, 1].map(offset => range([3, offset, 'element'])));
   assert.deepEqual(at(view.element.parentNode, 0), null);
   assert.deepEqual(at(null, 0), null);
-  nodeAt(view, 1).insertBefore(page.createElement('i'), embed);
+  nodeAt(view, 1).insertBefore(page.createElement('i'), shown);
   assert.deepEqual([at(nodeAt(view, 1), 0), at(nodeAt(view, 1), 1), at(nodeAt(view, 1), 2)],
     [0, 0, 1].map(offset => range([3, offset, 'element'])));
   assert.deepEqual(placeOf(view, [3, 1, 'element']), [nodeAt(view, 1), 2]);
@@ -101,7 +105,7 @@ test('a selection of nothing but the end of a block stays', () => {
 
 test('a selection around blocks is of what is in them', () => {
   const list = element('list', item(text('a')), item(element('list', item(text('b')))));
-  const { view } = drawn(paragraph('one'), list, { type: 'horizontalrule' }, paragraph('two'));
+  const { view } = drawn(paragraph('one'), list, rule, paragraph('two'));
   assertMeant(view, [[], 0], [[], 1], [2, 0, 'text'], [2, 3, 'text']);
   assertMeant(view, [[], 1], [[], 2], [5, 0, 'text'], [9, 1, 'text']);
   assertMeant(view, [[1], 0], [[1], 1], [5, 0, 'text'], [5, 1, 'text']);
@@ -114,14 +118,14 @@ test('a selection around blocks is of what is in them', () => {
 
 test('a selection up to the start of a block behind a rule or a table ends behind that', () => {
   const table = element('table', element('tablerow', cell(paragraph('x'))));
-  const { view } = drawn(paragraph('one'), { type: 'horizontalrule' }, paragraph('two'), table, paragraph('end'));
+  const { view } = drawn(paragraph('one'), rule, paragraph('two'), table, paragraph('end'));
   assertMeant(view, [[0, 0, 0], 0], [[2, 0, 0], 0], [2, 0, 'text'], [0, 2, 'element']);
   assertMeant(view, [[2, 0, 0], 0], [[4, 0, 0], 0], [5, 0, 'text'], [0, 4, 'element']);
   assertMeant(view, [[3, 0, 0, 0, 0, 0], 0], [[4, 0, 0], 0], [10, 0, 'text'], [10, 1, 'text']);
   assertMeant(view, [[], 3], [[], 4], [0, 3, 'element'], [0, 4, 'element']);
 });
 
-/** A table of two rows: the keys of its cells are 4, 7, 11, 14, and those of its rows 3 and 10 behind `before`. */
+/** A table of two rows. */
 const square = element('table', ...[['a', 'b'], ['c', 'd']].map(words =>
   element('tablerow', ...words.map(word => cell(paragraph(word))))));
 
@@ -143,9 +147,9 @@ test('below one cell the cells of the table in it are selected, and above it tho
   const { view } = drawn(element('table', element('tablerow', cell(square), cell(paragraph('z')))));
   const [outer, inner, left, first] = [...keysOf(view, 'table'), ...keysOf(view, 'td')];
   const [, , second] = keysOf(view, 'td'), right = keysOf(view, 'td').at(-1);
-  const inner1 = [[0, 0, 0, 0, 0, 0, 0, 0, 0], 1], inner2 = [[0, 0, 0, 0, 0, 1, 0, 0, 0], 1], z = [[0, 0, 1, 0, 0, 0], 1];
-  assert.deepEqual(selected(view, inner1, inner2), { anchor: first, focus: second, table: inner });
-  assert.deepEqual(selected(view, inner1, z), { anchor: left, focus: right, table: outer });
+  const inA = [[0, 0, 0, 0, 0, 0, 0, 0, 0], 1], inB = [[0, 0, 0, 0, 0, 1, 0, 0, 0], 1], inZ = [[0, 0, 1, 0, 0, 0], 1];
+  assert.deepEqual(selected(view, inA, inB), { anchor: first, focus: second, table: inner });
+  assert.deepEqual(selected(view, inA, inZ), { anchor: left, focus: right, table: outer });
 });
 
 /** The keys of the hosts with one of the tags, in document order. */
@@ -161,7 +165,8 @@ function keysOf(view, ...tags) {
 
 test('every point that the core takes has a place, and that place is of the point', () => {
   const list = element('list', item(text('a')), item());
-  const { editor, view } = drawn(paragraph('a😀', text('b', 129), { type: 'tab' }, { type: 'linebreak' }), paragraph(), list, square);
+  const mixed = paragraph('a😀', text('b', 129), { type: 'tab' }, { type: 'linebreak' });
+  const { editor, view } = drawn(mixed, paragraph(), list, square);
   let places = 0;
   for (const host of view.hosts) {
     for (const kind of ['text', 'element']) {
@@ -172,7 +177,8 @@ test('every point that the core takes has a place, and that place is of the poin
         if (refused && !(kind === 'text' && host.key === 2)) assert.equal(place, null, String(point));
         if (refused) continue;
         const [anchorNode, anchorOffset] = place;
-        assert.deepEqual(selectionIn(view, { anchorNode, anchorOffset, focusNode: anchorNode, focusOffset: anchorOffset }), range(point));
+        const caret = { anchorNode, anchorOffset, focusNode: anchorNode, focusOffset: anchorOffset };
+        assert.deepEqual(selectionIn(view, caret), range(point));
         places += 1;
       }
     }

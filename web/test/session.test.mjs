@@ -33,14 +33,14 @@ test('an act is its lines, each with its moment, and then what is selected', asy
   const seen = [];
   const { editor, session, sent } = opened({ now: () => 1234.9, onReply: (reply, line) => seen.push([reply, line]) });
   const replies = await session.do([typed('a'), { at: 2000, update: [] }, { show: 'history' }]);
-  assert.deepEqual(sent, [
-    { ...typed('a'), at: 1234 }, { at: 2000, update: [] }, { show: 'history', at: 2000 }, { at: 2000, show: 'selection' },
-  ]);
+  const at = 2000;
+  const others = [{ update: [] }, { show: 'history' }, { show: 'selection' }];
+  assert.deepEqual(sent, [{ ...typed('a'), at: 1234 }, ...others.map(line => ({ ...line, at }))]);
   assert.deepEqual(seen.map(([, line]) => line), sent);
   assert.deepEqual(replies, seen.slice(0, 3).map(([reply]) => reply));
   assert.equal(seen[3][0].selection.anchor[1], 6);
-  assert.deepEqual(await session.do({ show: 'view' }), [editor.line({ show: 'view' })], 'after questions it is not asked');
-  assert.equal(sent.length, 5);
+  assert.deepEqual(await session.do({ show: 'view' }), [editor.line({ show: 'view' })]);
+  assert.equal(sent.length, 5, 'after questions it is not asked');
   assert.deepEqual(await session.do([]), []);
 });
 
@@ -52,8 +52,8 @@ test('what is selected is sent where it differs from what the core has', async (
   await session.do(typed('d'));
   await session.do([], caret(2, 0));
   await session.do(typed('e'), { ...caret(2, 0), format: 1 });
-  assert.deepEqual(sent.map(wordOf), ['select', 'a', 'selection', 'b', 'selection', 'select', 'c', 'selection', 'd', 'selection',
-    'select', 'selection', 'select', 'e', 'selection']);
+  const words = 'select a selection b selection select c selection d selection select selection select e selection';
+  assert.equal(sent.map(wordOf).join(' '), words);
   assert.equal(textOf(editor), 'e');
   assert.equal(editor.line({ show: 'state' }).state.root.children[0].children[1].text, 'abHecdllo');
 });
@@ -179,7 +179,9 @@ test("a caller's mistake is named, and nothing is sent", async () => {
   assert.throws(() => new Session({ send() {} }, { now: 5 }), TypeError);
   assert.throws(() => new Session({ send() {} }, { onReply: 'no' }), TypeError);
   assert.throws(() => carrierOf({}), TypeError);
-  for (const lines of [null, undefined, 'line', [null], [[]], [typed('a'), 1]]) await assert.rejects(session.do(lines), TypeError);
+  for (const lines of [null, undefined, 'line', [null], [[]], [typed('a'), 1]]) {
+    await assert.rejects(session.do(lines), TypeError);
+  }
   await assert.rejects(session.do([], 'word'), TypeError);
   await assert.rejects(new Session({ send() {} }, { now: () => NaN }).do([]), TypeError);
   assert.deepEqual([sent, session.isBusy], [[], false]);
@@ -188,8 +190,9 @@ test("a caller's mistake is named, and nothing is sent", async () => {
 test('every cause has a sentence of its own kind', () => {
   const details = {
     BadLine: [null], BadCommand: [null], UnknownNode: [99, 'name'], WrongKind: ['list'], BadPlace: [1001],
-    NoSelection: ['none', 'range', 'nodes', 'cells'], SelectionLost: [[2, 0, 'text'], 7], NoRest: [101], StepLimit: [100001],
-    DispatchDepth: [65], TooLarge: ['depth', 'nodes', 'characters', 'key', 'hosts', 'written'].map(limit => [limit, 1]),
+    NoSelection: ['none', 'range', 'nodes', 'cells'], SelectionLost: [[2, 0, 'text'], 7], NoRest: [101],
+    StepLimit: [100001], DispatchDepth: [65],
+    TooLarge: ['depth', 'nodes', 'characters', 'key', 'hosts', 'written'].map(limit => [limit, 1]),
     UnknownType: ['note'], BadState: ['/root'], EmptyState: [null], HistoryInside: [null], TooManyRules: [256],
   };
   assert.equal(Object.keys(details).length, 16);
