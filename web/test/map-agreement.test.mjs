@@ -89,8 +89,9 @@ function edited({ editor, hosts }, draw) {
   const { selection } = editor.line({ show: 'selection' });
   const told = [[anchor, selection.anchor], [focus, selection.focus]].map(([point, now]) => {
     const mapped = mapPoint(hosts, ops, point);
-    if (mapped !== null) assert.deepEqual(mapped, now, JSON.stringify({ html: hosts.html(), point, steps, ops }));
-    return mapped === null ? 'open' : String(mapped) === String(point) ? 'kept' : 'moved';
+    if (mapped === null) return 'open';
+    if (String(mapped) !== String(now)) assert.fail(JSON.stringify({ html: hosts.html(), point, mapped, now, steps, ops }));
+    return String(mapped) === String(point) ? 'kept' : 'moved';
   });
   hosts.apply(ops);
   return told;
@@ -98,12 +99,12 @@ function edited({ editor, hosts }, draw) {
 
 test('a point that is told is where the core carried it', () => {
   const draw = generator(1), counts = { none: 0, open: 0, kept: 0, moved: 0 };
-  for (let session = 0; session < 40; session += 1) {
+  for (let session = 0; session < 30; session += 1) {
     const followed = opened({ update: [{ append: 'hello world' }, { append: 'other' }] });
     for (let turn = 0; turn < 60; turn += 1) for (const word of edited(followed, draw)) counts[word] += 1;
     followed.editor.close();
   }
-  assert.ok(counts.kept > 1000 && counts.moved > 200, JSON.stringify(counts));
+  assert.ok(counts.kept > 1000 && counts.moved > 150, JSON.stringify(counts));
 });
 
 // ---- edits at a caret, in a text with a mark at the point
@@ -148,18 +149,18 @@ function compared(words, point, caret, command) {
   const { characters, found } = charactersOf(plain.hosts, told), { characters: withMark } = charactersOf(marked.hosts);
   if (withMark.replace(MARK, '') !== characters) return 'none'; // the mark was in the way
   if (told === null) return 'open';
-  assert.equal(found, withMark.indexOf(MARK), JSON.stringify({ words, point, caret, command, told }));
+  if (found !== withMark.indexOf(MARK)) assert.fail(JSON.stringify({ words, point, caret, command, told }));
   return 'told';
 }
 
 test('a point that is told is where a mark in the text is after an edit at a caret', () => {
   const draw = generator(2), counts = { none: 0, open: 0, told: 0 };
-  for (let turn = 0; turn < 1200; turn += 1) {
+  for (let turn = 0; turn < 600; turn += 1) {
     const letters = Array.from({ length: 2 + draw(12) }, () => ['a', 'a', 'b', 'c', ' ', '\u{1f600}'][draw(6)]);
     const offsetOf = count => letters.slice(0, count).join('').length;
     const point = offsetOf(1 + draw(letters.length - 1)), caret = offsetOf(draw(letters.length + 1));
     if (caret === point) continue;
     counts[compared(letters.join(''), point, caret, commands[draw(commands.length)])] += 1;
   }
-  assert.ok(counts.told > 500, JSON.stringify(counts));
+  assert.ok(counts.told > 250, JSON.stringify(counts));
 });

@@ -83,9 +83,9 @@ test('a thousand acts over a slow carrier arrive in order, and their moments nev
   const draw = bound => (number = (Math.imul(number, 1664525) + 1013904223) >>> 0) % bound;
   const { editor, session, sent } = opened({ now: () => 5000 + draw(100) }, editor => ({ async send(lines) {
     most = Math.max(most, ++out);
-    if (draw(6) === 0) await wait(draw(3));
+    if (draw(20) === 0) await wait(draw(3));
     const replies = carrierOf(editor).send(lines);
-    if (draw(6) === 0) await wait(draw(3));
+    if (draw(20) === 0) await wait(draw(3));
     out -= 1;
     return replies;
   } }));
@@ -93,7 +93,7 @@ test('a thousand acts over a slow carrier arrive in order, and their moments nev
   const acts = [];
   for (const letter of letters) {
     acts.push(session.do(typed(letter)));
-    if (draw(10) === 0) await wait(1);
+    if (draw(20) === 0) await wait(1);
   }
   assert.ok(session.isBusy);
   await session.idle();
