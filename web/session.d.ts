@@ -40,7 +40,7 @@ export class Session {
    *
    * A refused line stops no other. An error of the carrier rejects the act, and later acts are sent all the same. After
    * an error with the code `closed`, `broken` or `spent` all acts are rejected with it. An error that `onReply` throws
-   * rejects the act too, once all its replies have been passed on.
+   * rejects the act too, once all replies that came with that one have been passed on.
    */
   do(lines: Line | readonly Line[], selected?: Selection | null): Promise<Reply[]>;
 

@@ -90,7 +90,10 @@ export class Session {
     const isSelected = this.#selected.isToSend(selection, hasMoved);
     if (isSelected) {
       const [{ refused }] = await this.#ask([{ at, update: [{ select: selection }] }]);
-      if (refused) return lines.map(() => ({ refused })); // they were meant for another place than what the core has
+      if (refused) {
+        await this.#ask([shown]);
+        return lines.map(() => ({ refused })); // they were meant for another place than what the core has
+      }
     }
     const isToShow = isSelected || lines.some(maySelect);
     const replies = lines.length > 0 || isToShow ? await this.#ask(isToShow ? [...lines, shown] : lines) : [];
@@ -127,6 +130,7 @@ export class Session {
     const { code, replies } = /** @type {{ code?: unknown, replies?: unknown }} */ (Object(error));
     if (lasting.has(code)) this.#ended = { error };
     if (Array.isArray(replies)) this.#pass(lines, replies.slice(0, lines.length));
+    this.#selected.forget(); // of lines that weren't answered, some may be done
   }
 
   /**

@@ -4,7 +4,7 @@ import test from 'node:test';
 import { View } from '../dom.js';
 import { placeOf, selectionIn, show } from '../selection.js';
 import { newCore } from './helper.mjs';
-import { newPage } from './page.mjs';
+import { newPage } from './plain-page.mjs';
 
 const core = await newCore();
 

@@ -73,7 +73,7 @@ test('lines are not sent to another place than was meant', async () => {
   const { editor, session, sent } = opened();
   const replies = await session.do([typed('a'), typed('b')], caret(9, 0));
   assert.deepEqual(replies.map(({ refused }) => refused.cause), ['UnknownNode', 'UnknownNode']);
-  assert.deepEqual(sent.map(wordOf), ['select']);
+  assert.deepEqual(sent.map(wordOf), ['select', 'selection']);
   await session.do(typed('c'));
   assert.equal(textOf(editor), 'Helloc');
 });
