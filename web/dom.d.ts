@@ -1,0 +1,39 @@
+import type { Host, Hosts } from './hosts.js';
+import type { Operation } from './replies.js';
+
+export interface ViewOptions {
+  /** Schemes of addresses that links may have, beside `http`, `https`, `mailto` and `tel`. */
+  schemes?: readonly string[];
+  /** Properties that a text's style may set, beside those of safe.js. */
+  styles?: readonly string[];
+  /** Hosts that are there already, which are drawn at once. From then on the view alone changes them. */
+  hosts?: Hosts;
+}
+
+/**
+ * Hosts drawn into a page. No text becomes HTML, and of attributes only what can do no harm is set: an address of another
+ * scheme and an attribute that isn't known are left out, a style is reduced, and a `target` has `rel="noopener"`.
+ */
+export class View {
+  /** Fills the element with one `div`, which shows host 0. What was in it goes. */
+  constructor(element: Element, options?: ViewOptions);
+  readonly hosts: Hosts;
+
+  /** The element of host 0, inside the one that was given. */
+  readonly element: Element;
+
+  /** Does all operations. If one doesn't fit, it throws a `ContentError`, and nothing has changed. */
+  apply(ops: readonly Operation[]): void;
+
+  /** The host that shows a node of the page: its own, or that of the nearest element around it; null outside. */
+  hostAround(node: Node): Host | null;
+
+  /** The outer element of a host. */
+  elementOf(host: Host): Element;
+
+  /** The element that its children, or its text, are in: of a tag such as `mark>strong` the inner one. */
+  insideOf(host: Host): Element;
+
+  /** Its text node, or null if it has no text. */
+  textOf(host: Host): Text | null;
+}
