@@ -91,7 +91,7 @@ function areClosed(value) {
  * @param {string} value
  */
 function areKnown(value) {
-  return value.split('(').slice(0, -1).every(before => {
+  return value.split('(').slice(0, -1).map(before => before.trimEnd()).every(before => {
     let at = before.length;
     while (at > 0 && /[\w\u0080-\uffff-]/.test(before[at - 1])) at -= 1;
     const word = before.slice(at).toLowerCase();

@@ -7,7 +7,7 @@ const MANY = 1000; // hosts of a large view
 
 /** Whether so many commits are worth a comparison, which costs as much as there are hosts. */
 function isDue(commits, waiting, { size }) {
-  return commits <= FIRST && size <= MANY || waiting * 20 >= size;
+  return commits <= FIRST && size <= MANY || waiting * 4 >= size;
 }
 
 /** Applies the replies to lines to new hosts, and compares these after commits; at the latest after the last line. */
