@@ -11,8 +11,9 @@ export interface ViewOptions {
 }
 
 /**
- * Hosts drawn into a page. No text becomes HTML, and of attributes only what can do no harm is set: an address of another
- * scheme and an attribute that isn't known are left out, a style is reduced, and a `target` has `rel="noopener"`.
+ * Hosts drawn into a page. No text becomes HTML, and of attributes only what can do no harm is set: an address of
+ * another scheme and an attribute that isn't known are left out, a style is reduced, and a `target` has
+ * `rel="noopener"`.
  */
 export class View {
   /** Fills the element with one `div`, which shows host 0. What was in it goes. */

@@ -14,8 +14,8 @@ import { safeProperties, safeSchemes } from './safe.js';
 /** @typedef {import('./dom.js').ViewOptions} ViewOptions */
 
 /**
- * What shows a host: its outer element, the one that its children or its text are in, its text, and the line break at its
- * end.
+ * What shows a host: its outer element, the one that its children or its text are in, its text, and the line break at
+ * its end.
  * @typedef {{ outer: Element, inside: Element, text: Text | null, ending: Element | null }} Drawn
  */
 
@@ -100,8 +100,8 @@ export class View {
   }
 
   /**
-   * Draws what an operation has done. What a host shows is read from the host, and so is drawn as it is in the end; where
-   * hosts are put is drawn in turn, as each place is told by others.
+   * Draws what an operation has done. What a host shows is read from the host, and so is drawn as it is in the end.
+   * Where hosts are put is drawn in turn, since each place is told by others.
    * @param {Effect} effect
    */
   #draw(effect) {

@@ -11,8 +11,8 @@ const plain = new Set(['class', 'title', 'value', 'start', 'colspan', 'rowspan',
 const aboutOpening = /^(?:opener|noopener)$/i;
 
 /**
- * The value of a host's attribute as a page may have it, or null if it may not. What isn't known here is left out, and what
- * is about links is drawn on links alone.
+ * The value of a host's attribute as a page may have it, or null if it may not. What isn't known here is left out, and
+ * what is about links is drawn on links alone.
  * @param {HostNode} host
  * @param {string} name
  * @param {Lists} lists

@@ -1,5 +1,5 @@
-// The tree of hosts, and what operations do to it. Each operation is checked against what those before it have left, and
-// what they did is undone if one doesn't fit. The same record of what was done tells a page what to draw.
+// The tree of hosts, and what operations do to it. Each operation is checked against what those before it have left,
+// and what they did is undone if one doesn't fit. The same record of what was done tells a page what to draw.
 import { ContentError } from './content-error.js';
 import { HostNode, link, unlink, walk } from './host-node.js';
 import { contentOf, formFault, shown } from './operations.js';
@@ -96,7 +96,7 @@ export class HostTree {
     if (fault) throw new Misfit(fault);
     switch (op[0]) {
       case 'create': return this.#create(op);
-      case 'place': return this.#place(this.#found(op[1]), this.#found(op[2]), op[3] === null ? null : this.#found(op[3]));
+      case 'place': return this.#place(op);
       case 'drop': return this.#drop(this.#found(op[1]));
       case 'text': return setText(this.#found(op[1]), op[2]);
       case 'attr': return setAttribute(this.#found(op[1]), op[2], op[3]);
@@ -129,12 +129,12 @@ export class HostTree {
   }
 
   /**
-   * @param {HostNode} parent
-   * @param {HostNode} host
-   * @param {HostNode | null} before
+   * @param {Extract<Operation, [name: 'place', ...rest: any]>} op
    * @returns {Effect}
    */
-  #place(parent, host, before) {
+  #place([, parentId, id, beforeId]) {
+    const parent = this.#found(parentId), host = this.#found(id);
+    const before = beforeId === null ? null : this.#found(beforeId);
     if (host === this.root) throw new Misfit('host 0 stays where it is');
     if (contentOf(parent.tag) !== 'hosts') throw new Misfit(`a host of the tag ${parent.tag} has no children`);
     if (before && before.parent !== parent) throw new Misfit(`host ${before.id} is no child of host ${parent.id}`);

@@ -83,7 +83,7 @@ export function formFault(value) {
  * @param {unknown} value
  */
 export function shown(value) {
-  return Array.isArray(value) ? `[${value.slice(0, 7).map(member => shownMember(member)).join(',')}]` : shownMember(value);
+  return Array.isArray(value) ? `[${value.slice(0, 7).map(shownMember).join(',')}]` : shownMember(value);
 }
 
 /** @param {unknown} member */

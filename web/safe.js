@@ -21,6 +21,9 @@ const dropped = /[\u0000-\u0020\u007f-\u00a0\u00ad\u200b-\u200f\u2028-\u202f\u20
 /** Characters written by their names, which an address isn't read with, but may be once it is printed as HTML. */
 const named = /&(?:#x?[0-9a-f]|colon\b|tab\b|newline\b|nbsp\b|sol\b)/i;
 
+/** What escapes, comments, nests, or begins another declaration or an expression. */
+const unplain = /[\\@{}<>:\u0000-\u0008\u000a-\u001f\u007f]|\/\*|\*\/|expression|javascript/i;
+
 /**
  * Whether an address may be followed: it is relative, a fragment, or has one of the schemes.
  * @param {string} address
@@ -60,15 +63,7 @@ function isSafe(declaration, listed) {
   const colon = declaration.indexOf(':');
   if (colon < 0 || !listed.has(declaration.slice(0, colon).trimEnd().toLowerCase())) return false;
   const value = declaration.slice(colon + 1);
-  return isPlain(value) && areClosed(value) && areKnown(value);
-}
-
-/**
- * Without what escapes, comments, nests, or begins another declaration or an expression.
- * @param {string} value
- */
-function isPlain(value) {
-  return value.trim() !== '' && !/[\\@{}<>:\u0000-\u0008\u000a-\u001f\u007f]|\/\*|\*\/|expression|javascript/i.test(value);
+  return value.trim() !== '' && !unplain.test(value) && areClosed(value) && areKnown(value);
 }
 
 /**

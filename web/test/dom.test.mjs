@@ -35,7 +35,9 @@ function compareWays(view) {
 test('each document and each session of examples', { skip }, async () => {
   const core = await newCore();
   const folder = join(top, 'examples', 'documents');
-  const loads = readdirSync(folder).map(file => `{"load":${readFileSync(join(folder, file)).toString().replaceAll('\n', ' ')}}`);
+  const loads = readdirSync(folder).map(file => {
+    return JSON.stringify({ load: JSON.parse(readFileSync(join(folder, file), 'utf8')) });
+  });
   const sessions = [...examples.map(({ input }) => linesOf(input).map(String)), ...loads.map(load => [load])];
   for (const lines of sessions) {
     const editor = core.open(), view = newView();
@@ -49,7 +51,7 @@ test('each document and each session of examples', { skip }, async () => {
 
 test('random sessions', { skip }, async () => {
   const core = await newCore();
-  for (let seed = 1000; seed < 1040; seed += 1) {
+  for (let seed = 1000; seed < 1025; seed += 1) {
     const random = new Random(seed), editor = core.open(), view = newView();
     for (let index = 0; index < 40; index += 1) {
       const { ops = [] } = editor.line(randomLine(random, view.hosts));
@@ -66,8 +68,8 @@ test('a view without anything unsafe is drawn as it is told', { skip }, () => {
   const view = newView();
   view.apply(begun.filter(op => !op.includes(8)));
   assert.equal(htmlOf(view.element), view.hosts.html());
-  assert.equal(view.element.outerHTML, '<div><p dir="ltr"><mark class="bold"><strong>abc</strong></mark><br><span data-src="a"></span><br></p>'
-    + '<hr><blockquote><p><br></p></blockquote></div>');
+  const paragraph = '<p dir="ltr"><mark class="bold"><strong>abc</strong></mark><br><span data-src="a"></span><br></p>';
+  assert.equal(view.element.outerHTML, `<div>${paragraph}<hr><blockquote><p><br></p></blockquote></div>`);
 });
 
 test('operations that do not fit leave the page as it was', { skip }, () => {
@@ -85,8 +87,9 @@ test('operations that do not fit leave the page as it was', { skip }, () => {
 });
 
 const unsafe = [
-  'javascript:alert(1)', 'JAVASCRIPT:alert(1)', ' JavaScript:alert(1)', 'java\tscript:alert(1)', 'java\nscript:alert(1)',
-  '\u0001javascript:alert(1)', '\u00a0javascript:alert(1)', 'javascript\u0000:alert(1)', 'jav\u00adascript:alert(1)',
+  'javascript:alert(1)', 'JAVASCRIPT:alert(1)', ' JavaScript:alert(1)', 'java\tscript:alert(1)',
+  'java\nscript:alert(1)', '\u0001javascript:alert(1)', '\u00a0javascript:alert(1)',
+  'javascript\u0000:alert(1)', 'jav\u00adascript:alert(1)',
   '&#106;avascript:alert(1)', '&#x6a;avascript:alert(1)', 'javascript&colon;alert(1)', 'java&Tab;script:alert(1)',
   'data:text/html,<script>alert(1)</script>', 'DATA:text/html;base64,PHNjcmlwdD4=', 'vbscript:x', 'file:///etc/passwd',
   'blob:https://example.org/1', 'about:blank', 'view-source:https://example.org', 'unknown:x', '1:2', ':', 'x y:z',
@@ -94,10 +97,13 @@ const unsafe = [
 
 test('what a stranger has in a document never reaches the page', { skip }, async () => {
   const core = await newCore(), editor = core.open(), view = newView();
-  const text = style => ({ type: 'text', text: '<img src=x onerror=alert(1)><script>alert(1)</script>', style });
+  const code = '<img src=x onerror=alert(1)><script>alert(1)</script>';
+  const text = style => ({ type: 'text', text: code, style });
   const link = url => ({ type: 'link', url, target: '_blank', rel: 'opener nofollow', children: [text('')] });
-  const styles = ['position:fixed;inset:0', 'color:red;position:fixed;inset:0', 'background:url(//x)', 'color:\\75rl(x)', 'top:0'];
-  const children = [...unsafe.map(link), link('https://example.org/'), ...styles.map(text), { type: 'embed', src: 'javascript:alert(1)' }];
+  const cover = 'position:fixed;inset:0';
+  const styles = [cover, `color:red;${cover}`, 'background:url(//x)', 'color:\\75rl(x)', 'top:0'];
+  const embed = { type: 'embed', src: 'javascript:alert(1)' };
+  const children = [...unsafe.map(link), link('https://example.org/'), ...styles.map(text), embed];
   const { ops } = editor.line({ load: { root: { children: [{ type: 'paragraph', children }] } } });
   view.apply(ops);
   const attributes = attributesIn(view.element);
@@ -112,8 +118,12 @@ test('what a stranger has in a document never reaches the page', { skip }, async
 
 test('attributes that are not known are not set, whatever they are', { skip }, () => {
   const view = newView();
-  const all = ['onclick', 'onload', 'src', 'srcdoc', 'id', 'name', 'action', 'formaction', 'contenteditable', 'is', 'slot', 'ping', 'href'];
-  view.apply([['create', 1, 1, 'p', Object.fromEntries(all.map(name => [name, '#'])), null, false], ['place', 0, 1, null]]);
+  const all = [
+    'onclick', 'onload', 'src', 'srcdoc', 'id', 'name', 'action', 'formaction', 'contenteditable', 'is', 'slot', 'ping',
+    'href', 'target', 'rel',
+  ];
+  const attributes = Object.fromEntries(all.map(name => [name, '#']));
+  view.apply([['create', 1, 1, 'p', attributes, null, false], ['place', 0, 1, null]]);
   view.apply(all.map(name => ['attr', 1, name, '#']));
   view.apply(all.map(name => ['attr', 0, name, '#']));
   assert.deepEqual(attributesIn(view.element), []);
@@ -144,7 +154,8 @@ test('schemes and properties beside the safe ones', { skip }, () => {
     ['create', 3, 3, 'span', { style: 'margin-left: 1em; color: red; top: 0' }, 'a', false],
     ['place', 0, 1, null], ['place', 0, 2, null], ['place', 2, 3, null],
   ]);
-  assert.deepEqual(attributesIn(view.element).map(([, , value]) => value), ['FTP://x', 'https://x', 'margin-left: 1em; color: red']);
+  const values = attributesIn(view.element).map(([, , value]) => value);
+  assert.deepEqual(values, ['FTP://x', 'https://x', 'margin-left: 1em; color: red']);
 });
 
 test('hosts that are there already, also where one is placed later', { skip }, () => {
@@ -168,7 +179,9 @@ test('the host around a node', { skip }, () => {
   assert.equal(view.hostAround(added.firstChild), paragraph);
   assert.equal(view.hostAround(outer.lastElementChild.previousSibling), paragraph); // its ending
   assert.equal(view.hostAround(view.element), root);
-  for (const node of [view.element.parentNode, window.document.body, other.element]) assert.equal(view.hostAround(node), null);
+  for (const node of [view.element.parentNode, window.document.body, other.element]) {
+    assert.equal(view.hostAround(node), null);
+  }
   assert.equal(view.hostAround(view.elementOf(view.hosts.get(10))), null); // it isn't placed
   view.apply([['drop', 1]]);
   assert.equal(view.hostAround(added), null);
@@ -198,6 +211,6 @@ test('arguments that are none', { skip }, () => {
 test('nothing is set as HTML', () => {
   for (const file of ['dom.js', 'drawn.js', 'safe.js']) {
     const source = readFileSync(join(web, file), 'utf8');
-    assert.doesNotMatch(source, /innerHTML|outerHTML|insertAdjacentHTML|document\.write|createContextualFragment|DOMParser|eval\(/);
+    assert.doesNotMatch(source, /innerHTML|outerHTML|insertAdjacentHTML|\.write|ContextualFragment|DOMParser|eval/);
   }
 });

@@ -28,8 +28,8 @@ test('each misfit alone, and behind operations that fit', () => {
     for (const before of [[], reversible]) {
       assert.throws(() => hosts.apply([...before, op, ['nothing']]), error => {
         assert.ok(error instanceof ContentError && error.code === 'operation');
-        assert.ok(error.message.startsWith(`operation ${before.length}, `) && error.message.includes(said), error.message);
-        assert.ok(error.message.length < 500);
+        assert.ok(error.message.startsWith(`operation ${before.length}, `), error.message);
+        assert.ok(error.message.includes(said) && error.message.length < 500, error.message);
         return true;
       });
       assert.equal(wholeOf(hosts), whole);
@@ -50,7 +50,7 @@ test('all that fits is undone, however far it went', () => {
 test('operations that are changed at random fit, or change nothing', () => {
   const random = new Random(1);
   let refused = 0;
-  for (let round = 0; round < 3000; round += 1) {
+  for (let round = 0; round < 1500; round += 1) {
     const hosts = hostsBegun(), whole = wholeOf(hosts);
     const ops = changedAt(random, fitting);
     try {
@@ -64,7 +64,7 @@ test('operations that are changed at random fit, or change nothing', () => {
       assert.equal(wholeOf(hosts), whole);
     }
   }
-  assert.ok(refused > 500 && refused < 2800, `${refused} were refused`);
+  assert.ok(refused > 300 && refused < 1400, `${refused} were refused`);
 });
 
 test('a reply that comes twice is refused if it makes hosts', () => {

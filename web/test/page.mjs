@@ -12,7 +12,7 @@ function windowOrNull() {
 }
 
 export const window = windowOrNull();
-export const skip = window ? false : 'there is no jsdom: NODE_PATH=/usr/share/nodejs finds that of the package node-jsdom';
+export const skip = !window && 'there is no jsdom: NODE_PATH=/usr/share/nodejs finds that of the package node-jsdom';
 
 const names = { '&': '&amp;', '<': '&lt;', '>': '&gt;', '"': '&quot;' };
 const escaped = text => text.replace(/[&<>"]/g, character => names[character]);

@@ -88,22 +88,33 @@ function holderOf(random, nodes, type) {
 
 function fieldsOf(random, type) {
   switch (type) {
-    case 'text': return { text: random.pick(words) + random.below(10), format: random.below(256), style: random.pick(styles) };
+    case 'text': return {
+      text: random.pick(words) + random.below(10), format: random.below(256), style: random.pick(styles),
+    };
     case 'tab': return { format: random.below(256) };
     case 'linebreak': case 'horizontalrule': return {};
     case 'embed': return { src: random.pick(addresses) };
-    case 'link': return { url: random.pick(addresses), target: random.pick([null, '_blank']), title: random.pick([null, '"']) };
+    case 'link': return {
+      url: random.pick(addresses), target: random.pick([null, '_blank']), title: random.pick([null, '"']),
+    };
     case 'list': return { listType: random.pick(['bullet', 'number', 'check']), start: random.below(5) };
     case 'heading': return { tag: `h${1 + random.below(6)}` };
-    case 'tablecell': return { headerState: random.below(4), colSpan: 1 + random.below(3), backgroundColor: random.pick([null, 'red']) };
-    default: return { format: random.pick(['', 'center']), indent: random.below(3), direction: random.pick([null, 'rtl']) };
+    case 'tablecell': return {
+      headerState: random.below(4), colSpan: 1 + random.below(3), backgroundColor: random.pick([null, 'red']),
+    };
+    default: return {
+      format: random.pick(['', 'center']), indent: random.below(3), direction: random.pick([null, 'rtl']),
+    };
   }
 }
 
-/** Steps that make a node, and what it may not be without. */
+/** What nodes are made with, so that they aren't empty. */
+const fillings = { list: 'listitem', link: 'text', table: 'tablerow', tablerow: 'tablecell', tablecell: 'paragraph' };
+
+/** Steps that make a node, and what is in it. */
 function making(random, type, name) {
-  const inside = { list: 'listitem', link: 'text', table: 'tablerow', tablerow: 'tablecell', tablecell: 'paragraph' }[type];
-  const fill = inside ?? (random.once(2) && type !== 'listitem' && holds[type]?.includes('text') ? 'text' : null);
+  const mayHaveText = type !== 'listitem' && holds[type]?.includes('text');
+  const fill = fillings[type] ?? (mayHaveText && random.once(2) ? 'text' : null);
   const steps = [{ new: type, fields: fieldsOf(random, type), as: name }];
   if (fill) steps.push(...making(random, fill, `${name}'`), { put: `${name}'`, into: name });
   return steps;
