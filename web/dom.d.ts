@@ -6,7 +6,7 @@ export interface ViewOptions {
   schemes?: readonly string[];
   /** Properties that a text's style may set, beside those of safe.js. */
   styles?: readonly string[];
-  /** Hosts that are there already, which are drawn at once. From then on the view alone changes them. */
+  /** Hosts that are there already. They are drawn at once, and from then on by this view instead of an earlier one. */
   hosts?: Hosts;
 }
 
@@ -23,7 +23,7 @@ export class View {
   /** The element of host 0, inside the one that was given. */
   readonly element: Element;
 
-  /** Does all operations. If one doesn't fit, it throws a `ContentError`, and nothing has changed. */
+  /** The same as `hosts.apply`: if an operation doesn't fit, it throws a `ContentError`, and nothing has changed. */
   apply(ops: readonly Operation[]): void;
 
   /** The host that shows a node of the page: its own, or that of the nearest element around it; null outside. */

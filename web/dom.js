@@ -22,7 +22,6 @@ import { safeProperties, safeSchemes } from './safe.js';
 export class View {
   hosts;
   element;
-  #tree;
   #document;
   #lists;
   /** @type {WeakMap<HostNode, Drawn>} */
@@ -43,7 +42,6 @@ export class View {
     if (element?.nodeType !== 1) throw new TypeError('a view is drawn into an element');
     if (!(tree instanceof HostTree)) throw new TypeError('the hosts of a view are Hosts');
     this.hosts = hosts;
-    this.#tree = tree;
     this.#document = element.ownerDocument;
     this.#lists = {
       schemes: [...safeSchemes, ...words('schemes', schemes)],
@@ -53,6 +51,7 @@ export class View {
     for (const host of tree) for (const child of host.children) this.#put(child, host, null);
     this.element = this.#of(tree.root).outer;
     element.replaceChildren(this.element);
+    tree.draw = effects => effects.forEach(effect => this.#draw(effect));
   }
 
   /**
@@ -60,7 +59,7 @@ export class View {
    * @param {readonly Operation[]} ops
    */
   apply(ops) {
-    for (const effect of this.#tree.change(ops)) this.#draw(effect);
+    this.hosts.apply(ops);
   }
 
   /**

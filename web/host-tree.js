@@ -36,6 +36,12 @@ export class HostTree {
    * @type {Map<number, HostNode>}
    */
   #byKey = new Map([[0, this.root]]);
+  /**
+   * Draws what was done. A view sets it.
+   * @internal
+   * @type {(effects: Effect[]) => void}
+   */
+  draw = () => {};
   /** The greatest id that was dropped: ids count up, so up to it none is given again. */
   #lastDropped = 0;
 
@@ -60,18 +66,19 @@ export class HostTree {
     return this.#byKey.get(key);
   }
 
-  /** @param {readonly Operation[]} ops */
+  /**
+   * Does all operations, or none, and has the view draw what they did.
+   * @param {readonly Operation[]} ops
+   */
   apply(ops) {
-    this.change(ops);
+    this.draw(this.#change(ops));
   }
 
   /**
-   * Does all operations, or none: what each has done, in order.
-   * @internal
    * @param {readonly Operation[]} ops
    * @returns {Effect[]}
    */
-  change(ops) {
+  #change(ops) {
     if (!Array.isArray(ops)) throw notOperations(ops);
     /** @type {Effect[]} */
     const effects = [];

@@ -169,6 +169,16 @@ test('hosts that are there already, also where one is placed later', { skip }, (
   compareDrawn(view);
 });
 
+test('hosts are drawn whoever changes them, by the view that was made last', { skip }, () => {
+  const first = newView();
+  first.hosts.apply(begun);
+  compareDrawn(first);
+  const second = newView({ hosts: first.hosts }), html = htmlOf(first.element);
+  first.apply(fitting);
+  compareDrawn(second);
+  assert.equal(htmlOf(first.element), html);
+});
+
 test('the host around a node', { skip }, () => {
   const view = newView(), other = newView();
   view.apply(begun);
