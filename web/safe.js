@@ -19,7 +19,7 @@ const functions = new Set([
 const dropped = /[\u0000-\u0020\u007f-\u00a0\u00ad\u200b-\u200f\u2028-\u202f\u2060-\u206f\u3000\ufeff]+/g;
 
 /** Characters written by their names, which an address isn't read with, but may be once it is printed as HTML. */
-const named = /&(?:#x?[0-9a-f]|colon\b|tab\b|newline\b|nbsp\b|sol\b)/i;
+const named = /&(?:#(?:\d|x[0-9a-f])|colon\b|tab\b|newline\b|nbsp\b|sol\b)/i;
 
 /** What escapes, comments, nests, or begins another declaration or an expression. */
 const unplain = /[\\@{}<>:\u0000-\u0008\u000a-\u001f\u007f]|\/\*|\*\/|expression|javascript/i;

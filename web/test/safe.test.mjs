@@ -5,7 +5,7 @@ import { isSafeAddress, safeStyle } from '../safe.js';
 
 test('addresses that are safe', () => {
   for (const address of [
-    '', '#', '#a:b', '?a:b', '/a:b', './a:b', '//example.org/a:b', 'a', 'a/b:c', 'a?b&#c',
+    '', '#', '#a:b', '?a:b', '/a:b', './a:b', '//example.org/a:b', 'a', 'a/b:c', 'a?b&#c', 'a&#b',
     'https://example.org/?a=javascript:b&#99',
     'http://a', 'HTTPS://a', 'h\tttps://a', ' https://a', 'mailto:a@b', 'tel:+1-2', 'https:a',
   ]) assert.ok(isSafeAddress(address), JSON.stringify(address));
