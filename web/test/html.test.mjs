@@ -1,0 +1,41 @@
+// HTML to slices and back: what the core takes of it, and that writing and reading again changes nothing.
+import assert from 'node:assert/strict';
+import { createRequire } from 'node:module';
+import { readFileSync, readdirSync } from 'node:fs';
+import { join } from 'node:path';
+import test from 'node:test';
+import { htmlFromDocument, sliceFromHtml } from '../html.js';
+import { again, chance, pasted, short, skip, someHtml, textOf } from './html.mjs';
+import { top } from './helper.mjs';
+
+/** The text that parse5 finds, without white space, and with what stands for images. */
+function textByParser(html) {
+  const parse5 = createRequire(import.meta.url)('parse5');
+  const read = node => {
+    if (node.nodeName === '#text') return node.value;
+    if (node.nodeName === 'img') return node.attrs.find(({ name }) => name === 'alt')?.value ?? '';
+    return (node.childNodes ?? []).map(read).join('');
+  };
+  return read(parse5.parse(html, { scriptingEnabled: false })).replace(/\s+/g, '');
+}
+
+test('HTML by chance is pasted with all of its text, and is the same when it is written and read again', { skip }, async () => {
+  for (let seed = 0; seed < 1000; seed += 1) {
+    const html = someHtml(chance(seed));
+    const slice = await sliceFromHtml(html);
+    const { root } = pasted(slice);
+    assert.equal(textOf(root.children), textByParser(html), `seed ${seed}: ${html}`);
+    assert.equal(textOf(slice.nodes), textByParser(html), `seed ${seed}: ${html}`);
+    assert.equal(short((await again(slice)).nodes), short(slice.nodes), `seed ${seed}: ${html}`);
+  }
+});
+
+test('documents of the examples', { skip }, async () => {
+  for (const name of readdirSync(join(top, 'examples', 'documents'))) {
+    const document = JSON.parse(readFileSync(join(top, 'examples', 'documents', name), 'utf8'));
+    const slice = await sliceFromHtml(htmlFromDocument(document));
+    assert.equal(textOf(slice.nodes), textOf(document.root.children), name);
+    assert.deepEqual(await again(slice), slice, name);
+    pasted(slice);
+  }
+});
