@@ -18,6 +18,9 @@ export class Place {
   node = null;
   /** @type {Place | null} of an item: the one for its lists and what is after them */
   nest = null;
+  #holdsLists = false; // an item of nothing but lists, and what is after them
+  /** @type {Place | null} of a list: its last item so far */
+  lastItem = null;
   /** @type {boolean | null} */
   checked = null;
   /** @type {WordLevel[]} lists of Word that go on here, by their levels */
@@ -46,6 +49,20 @@ export class Place {
    */
   get now() {
     return this.nest ?? this;
+  }
+
+  /**
+   * What holds a list at this place: lists within a list are in items of their own, as the core's commands leave them.
+   * @returns {Place}
+   */
+  nesting() {
+    const { now } = this;
+    if (now.kind === 'list') return now.lastItem?.nesting() ?? new Place('item', now).nesting();
+    if (now.kind !== 'item' || now.#holdsLists) return now;
+    const isEmpty = now.node === null && now.checked === null;
+    this.nest = isEmpty ? now : new Place('item', now.parent);
+    this.nest.#holdsLists = true;
+    return this.nest;
   }
 
   /** The nearest place that holds any block. */
@@ -174,9 +191,9 @@ export class Builder {
    * @param {Place} place
    */
   #putIntoItem(inlines, { align, direction }, place) {
-    const { children, ...fields } = this.open(place);
-    const node = /** @type {Element} */ (place.node);
-    if (children.length === 0) Object.assign(node, { format: align || fields.format, direction: direction ?? fields.direction });
+    const node = this.open(place);
+    const { children } = node;
+    if (children.length === 0) Object.assign(node, { format: align, direction });
     const last = children.at(-1);
     if (last !== undefined && isInline(last)) {
       this.budget.takeNodes(1);
@@ -195,6 +212,7 @@ export class Builder {
     if (place.facts !== null) this.#cells.set(node, place.facts);
     place.node = node;
     if (!place.isWordList) parent.wordLevels = [];
+    if (place.kind === 'item') parent.lastItem = place;
     /** @type {Element} */ (parent.node).children.push(node);
     this.#open.push(place);
   }
@@ -224,8 +242,9 @@ export class Builder {
     let value = list.start;
     for (const item of list.children) {
       item.value = value;
-      if (item.children?.[0]?.type === 'list') {
+      if (item.children?.[0]?.type === 'list') { // it is shown as a part of the item before it
         delete item.checked;
+        Object.assign(item, { direction: null, format: '' });
         continue;
       }
       value += 1;

@@ -45,7 +45,7 @@ export function inlineContext({ name, attributes }, around, styles) {
 export function blockContext(node, around, styles) {
   const { name, attributes } = node;
   const format = formatWithin(around.format, name, styles, { isBlock: true, isInLink: around.link !== null });
-  const direction = directionOf(attributes) ?? around.direction;
+  const direction = directionWithin(around.direction, attributes);
   const align = alignWithin(around.align, name, styles, attributes.get('align') ?? '');
   const isIndented = name === 'p' || /^h[1-6]$/.test(name);
   const block = { name: nameWithin(around.block, name), align, direction, indent: isIndented ? indentOf(styles) : around.block.indent };
@@ -66,10 +66,12 @@ function nameWithin(around, name) {
 }
 
 /**
+ * @param {Direction} around
  * @param {ReadonlyMap<string, string>} attributes
  * @returns {Direction}
  */
-function directionOf(attributes) {
+function directionWithin(around, attributes) {
   const value = attributes.get('dir')?.toLowerCase();
-  return value === 'rtl' || value === 'ltr' ? value : null;
+  if (value === 'auto') return null;
+  return value === 'rtl' || value === 'ltr' ? value : around;
 }

@@ -3,7 +3,7 @@ import { Place } from './html-build.js';
 import { DEEPEST } from './html-nodes.js';
 import { backgroundOf, stylesOf } from './html-style.js';
 import { cellMembers, spanOf } from './html-table.js';
-import { wordItemOf, wordLevelOf, wordListOf } from './html-word.js';
+import { MOST_LEVELS, wordItemOf, wordLevelOf, wordListOf } from './html-word.js';
 
 /** @typedef {import('./html.js').ParsedNode} ParsedNode */
 /** @typedef {import('./html-context.js').Context} Context */
@@ -29,7 +29,8 @@ export function placeWithin(node, context, styles) {
     case 'caption': return place.outer;
     case 'p': case 'div': {
       const level = wordLevelOf(styles);
-      return level === null || !hasRoom(place, 5) ? place : wordItemOf(wordListOf(node, place.now, level, fieldsOf(context)));
+      const isFree = holdsBlocks(place) && hasRoom(place, 2 * MOST_LEVELS + 2);
+      return level === null || !isFree ? place : wordItemOf(wordListOf(node, place, level, fieldsOf(context)));
     }
     default: return place;
   }
@@ -41,6 +42,9 @@ export function placeWithin(node, context, styles) {
  * @param {number} levels
  */
 const hasRoom = (place, levels) => place.level + levels <= DEEPEST;
+
+/** @param {Place} place */
+const holdsBlocks = ({ kind }) => kind === 'root' || kind === 'cell' || kind === 'quote';
 
 /** @param {Context} context */
 const fieldsOf = ({ direction }) => ({ direction });
@@ -58,26 +62,13 @@ function quoteWithin(context) {
  */
 function listWithin({ name, attributes }, context) {
   const place = context.place.now;
-  const parent = place.kind === 'table' || place.kind === 'row' ? place.outer : nestIn(context.place);
+  const parent = place.kind === 'table' || place.kind === 'row' ? place.outer : context.place.nesting();
   if (!hasRoom(parent, 5)) return place.kind === 'item' ? /** @type {Place} */ (place.parent) : place;
-  if (place.kind === 'item' && parent !== place) context.place.nest = parent;
   const isNumbered = name === 'ol';
   const start = Number.parseInt(attributes.get('start') ?? '', 10);
   const members = { listType: isNumbered ? 'number' : 'bullet', start: 1, tag: isNumbered ? 'ol' : 'ul', ...fieldsOf(context) };
   if (isNumbered && start >= 0) members.start = Math.min(start, 1_000_000);
   return new Place('list', parent, members);
-}
-
-/**
- * What holds a list at a place: lists within a list are in items of their own, as the core's commands leave them.
- * @param {Place} place
- * @returns {Place}
- */
-function nestIn(place) {
-  const now = place.now;
-  if (now.kind === 'list') return new Place('item', now);
-  if (now.kind !== 'item' || now !== place || (now.node === null && now.checked === null)) return now;
-  return new Place('item', now.parent);
 }
 
 /**

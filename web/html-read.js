@@ -143,15 +143,13 @@ export class Reader {
   }
 
   /**
+   * A check box at the start of an item makes it one of a list of checks.
    * @param {ReadonlyMap<string, string>} attributes
    * @param {Context} context
    */
   #addInput(attributes, { place }) {
-    const { kind, checked } = place;
-    if (kind === 'item' && checked === null && attributes.get('type')?.toLowerCase() === 'checkbox') {
-      place.checked = attributes.has('checked');
-      if (place.node !== null) place.node.checked = place.checked;
-    }
+    const isFirst = place.kind === 'item' && place.node === null && !this.#builder.line?.isShown;
+    if (isFirst && attributes.get('type')?.toLowerCase() === 'checkbox') place.checked ??= attributes.has('checked');
   }
 
   /**

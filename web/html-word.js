@@ -6,7 +6,9 @@ import { stylesOf } from './html-style.js';
 /** @typedef {import('./html-style.js').Styles} Styles */
 
 const MOST_LOOKED_AT = 20; // nodes: a marker is at the start of its paragraph
-const DEEPEST_LEVEL = 9; // of Word's lists
+
+/** Levels of Word's lists. */
+export const MOST_LEVELS = 9;
 
 /**
  * The level that a paragraph has in a list, from 1; null if it is in none.
@@ -15,7 +17,7 @@ const DEEPEST_LEVEL = 9; // of Word's lists
  */
 export function wordLevelOf(styles) {
   const [, level] = /\blevel(\d{1,3})\b/.exec(styles.get('mso-list') ?? '') ?? [];
-  return level === undefined ? null : Math.min(Math.max(Number(level), 1), DEEPEST_LEVEL);
+  return level === undefined ? null : Math.min(Math.max(Number(level), 1), MOST_LEVELS);
 }
 
 /**
@@ -56,7 +58,7 @@ export function wordListOf(node, place, level, fields) {
     const start = isLast && /^\d+$/.test(number ?? '') ? Math.min(Number(number), 1_000_000) : 1;
     const members = number === undefined ? { listType: 'bullet', start: 1, tag: 'ul' } : { listType: 'number', start, tag: 'ol' };
     const above = levels.at(-1)?.list;
-    const list = new Place('list', above === undefined ? place : new Place('item', above), { ...members, ...fields });
+    const list = new Place('list', above === undefined ? place : above.nesting(), { ...members, ...fields });
     list.isWordList = true;
     levels.push({ list, key });
   }

@@ -8,6 +8,7 @@ import { safeProperties, safeSchemes, safeStyle } from './safe.js';
 
 /** @typedef {import('./html-values.js').Values} Values */
 /** @typedef {{ schemes: readonly string[], styles: readonly string[], parts: string[] }} Writer */
+/** @typedef {{ depth: number, align: string, direction: string }} Around what holds around a node */
 
 const DEEPEST = 64; // levels: what the core takes, and some
 
@@ -24,7 +25,7 @@ export function htmlFromDocument(document, options = {}) {
   /** @type {Writer} */
   const writer = { schemes, styles, parts: [] };
   if (!Array.isArray(list)) throw new ContentError('document', 'neither a document nor a slice: it has no root and no nodes');
-  writeMixed(writer, childrenOf({ children: list }), 1);
+  writeMixed(writer, childrenOf({ children: list }), { depth: 1, align: '', direction: '' });
   return writer.parts.join('');
 }
 
@@ -55,15 +56,15 @@ function childrenOf({ children }) {
  * Writes lines of inlines, and blocks between them.
  * @param {Writer} writer
  * @param {(Values & { type: string })[]} nodes
- * @param {number} depth
+ * @param {Around} around
  */
-function writeMixed(writer, nodes, depth) {
-  if (depth > DEEPEST) throw new ContentError('depth', `a document nests at most ${DEEPEST} levels deep`);
+function writeMixed(writer, nodes, around) {
+  if (around.depth > DEEPEST) throw new ContentError('depth', `a document nests at most ${DEEPEST} levels deep`);
   for (let at = 0; at < nodes.length;) {
     let end = at;
     while (end < nodes.length && isInline(nodes[end])) end += 1;
     if (end > at) writeInlines(writer, nodes.slice(at, end), childrenOf);
-    else writeBlock(writer, nodes[end++], depth);
+    else writeBlock(writer, nodes[end++], around);
     at = end;
   }
 }
@@ -71,15 +72,15 @@ function writeMixed(writer, nodes, depth) {
 /**
  * @param {Writer} writer
  * @param {Values & { type: string }} node
- * @param {number} depth
+ * @param {Around} around
  */
-function writeBlock(writer, node, depth) {
+function writeBlock(writer, node, around) {
   switch (node.type) {
-    case 'paragraph': return writeLine(writer, 'p', node, depth);
-    case 'heading': return writeLine(writer, wordIn(node, 'tag', ['h1', 'h2', 'h3', 'h4', 'h5', 'h6'], 'h1'), node, depth);
-    case 'quote': return writeLine(writer, 'blockquote', node, depth);
-    case 'list': return writeList(writer, node, depth);
-    case 'table': return writeTable(writer, node, depth);
+    case 'paragraph': return writeLine(writer, 'p', node, around);
+    case 'heading': return writeLine(writer, wordIn(node, 'tag', ['h1', 'h2', 'h3', 'h4', 'h5', 'h6'], 'h1'), node, around);
+    case 'quote': return writeLine(writer, 'blockquote', node, around);
+    case 'list': return writeList(writer, node, around);
+    case 'table': return writeTable(writer, node, around);
     case 'horizontalrule': writer.parts.push('<hr>'); return;
     default: throw new ContentError('document', `a ${node.type} where a block belongs`);
   }
@@ -89,75 +90,105 @@ function writeBlock(writer, node, depth) {
  * @param {Writer} writer
  * @param {string} tag
  * @param {Values} node
- * @param {number} depth
+ * @param {Around} around
  */
-function writeLine(writer, tag, node, depth) {
+function writeLine(writer, tag, node, around) {
   const children = childrenOf(node);
-  writer.parts.push(`<${tag}${lookOf(node)}>`);
+  writer.parts.push(`<${tag}${lookOf(node, around)}>`);
   if (children.length === 0) writer.parts.push('<br>');
-  writeMixed(writer, children, depth + 1);
+  writeMixed(writer, children, within(node, around));
   writer.parts.push(`</${tag}>`);
 }
 
 /**
- * The attributes of an element: its direction, its alignment and its indentation.
+ * The attributes of an element: its direction, its alignment and its indentation, and that it has none where others would
+ * go down to it from around.
  * @param {Values} node
+ * @param {Around} around
+ * @param {string} [style] another declaration
  */
-function lookOf(node) {
+function lookOf(node, around, style = '') {
+  const { align, direction } = within(node, around);
+  const indent = numberIn(node, 'indent', 0, 65_535, 0);
+  const told = direction || (around.direction && 'auto');
+  const styles = style === '' ? [] : [escaped(style)];
+  if (align || around.align) styles.push(`text-align: ${align || 'start'}`);
+  if (indent > 0) styles.push(`padding-inline-start: ${indent * STEP}px`);
+  return (told && ` dir="${told}"`) + (styles.length > 0 ? ` style="${styles.join('; ')}"` : '');
+}
+
+/**
+ * What holds within a node.
+ * @param {Values} node
+ * @param {Around} around
+ * @returns {Around}
+ */
+function within(node, { depth }) {
   const direction = wordIn(node, 'direction', ['ltr', 'rtl'], '');
   const align = wordIn(node, 'format', ['left', 'center', 'right', 'justify', 'start', 'end'], '');
-  const indent = numberIn(node, 'indent', 0, 65_535, 0);
-  const styles = [align && `text-align: ${align}`, indent && `padding-inline-start: ${indent * STEP}px`].filter(Boolean);
-  return (direction && ` dir="${direction}"`) + (styles.length > 0 ? ` style="${styles.join('; ')}"` : '');
+  return { depth: depth + 1, align, direction };
 }
 
 /**
  * @param {Writer} writer
  * @param {Values} list
- * @param {number} depth
+ * @param {Around} around
  */
-function writeList(writer, list, depth) {
+function writeList(writer, list, around) {
   const type = wordIn(list, 'listType', ['bullet', 'number', 'check'], 'bullet');
   const start = numberIn(list, 'start', 0, 1_000_000, 1);
   const tag = type === 'number' ? 'ol' : 'ul';
   const kind = type === 'check' ? ' class="contains-task-list"' : '';
-  writer.parts.push(`<${tag}${kind}${type === 'number' && start !== 1 ? ` start="${start}"` : ''}${lookOf(list)}>`);
-  let isOpen = false;
-  for (const item of childrenOf(list)) {
+  writer.parts.push(`<${tag}${kind}${type === 'number' && start !== 1 ? ` start="${start}"` : ''}${lookOf(list, around)}>`);
+  const inner = within(list, around);
+  let isOpen = false, shown = inner;
+  const items = childrenOf(list);
+  items.forEach((item, index) => {
     if (item.type !== 'listitem') throw new ContentError('document', `a ${item.type} in a list`);
     const children = childrenOf(item);
-    const isNesting = children[0]?.type === 'list';
-    if (isOpen && !isNesting) writer.parts.push('</li>');
-    if (!isOpen || !isNesting) writer.parts.push(itemStart(item, type === 'check' && !isNesting));
-    writeMixed(writer, children, depth + 2);
+    const isPart = isNesting(item); // of the item before it
+    if (isOpen && !isPart) writer.parts.push('</li>');
+    if (!isOpen || !isPart) writer.parts.push(itemStart(item, type === 'check' && !isPart, inner));
+    if (!isOpen || !isPart) shown = within(item, inner);
+    writeMixed(writer, children, shown);
+    if (children.length === 0 && isNesting(items[index + 1])) writer.parts.push('<br>'); // or they would be one item
     isOpen = true;
-  }
+  });
   writer.parts.push(isOpen ? `</li></${tag}>` : `</${tag}>`);
 }
 
 /**
+ * Whether an item begins with a list: it is shown without a bullet or a number of its own.
+ * @param {Values | undefined} item
+ */
+const isNesting = item => item !== undefined && childrenOf(item)[0]?.type === 'list';
+
+/**
  * @param {Values} item
  * @param {boolean} isCheck
+ * @param {Around} around
  */
-function itemStart(item, isCheck) {
-  if (!isCheck) return `<li${lookOf(item)}>`;
+function itemStart(item, isCheck, around) {
+  if (!isCheck) return `<li${lookOf(item, around)}>`;
   const isChecked = item.checked === true;
-  return `<li class="task-list-item"${lookOf(item)}><input type="checkbox"${isChecked ? ' checked' : ''} disabled> `;
+  return `<li class="task-list-item"${lookOf(item, around)}><input type="checkbox"${isChecked ? ' checked' : ''} disabled> `;
 }
 
 /**
  * @param {Writer} writer
  * @param {Values} table
- * @param {number} depth
+ * @param {Around} around
  */
-function writeTable(writer, table, depth) {
-  writer.parts.push(`<table${lookOf(table)}><tbody>`);
+function writeTable(writer, table, around) {
+  writer.parts.push(`<table${lookOf(table, around)}><tbody>`);
+  const inner = { ...within(table, around), align: '' }; // which doesn't go down into a table
   for (const row of childrenOf(table)) {
     if (row.type !== 'tablerow') throw new ContentError('document', `a ${row.type} in a table`);
-    writer.parts.push(`<tr${lookOf(row)}>`);
+    writer.parts.push(`<tr${lookOf(row, inner)}>`);
+    const own = within(row, inner);
     for (const cell of childrenOf(row)) {
       if (cell.type !== 'tablecell') throw new ContentError('document', `a ${cell.type} in a row`);
-      writeCell(writer, cell, depth + 3);
+      writeCell(writer, cell, own);
     }
     writer.parts.push('</tr>');
   }
@@ -167,9 +198,9 @@ function writeTable(writer, table, depth) {
 /**
  * @param {Writer} writer
  * @param {Values} cell
- * @param {number} depth
+ * @param {Around} around
  */
-function writeCell(writer, cell, depth) {
+function writeCell(writer, cell, around) {
   const header = numberIn(cell, 'headerState', 0, 3, 0);
   const tag = header === 0 ? 'td' : 'th';
   const scope = ['', ' scope="col"', ' scope="row"', ''][header];
@@ -180,11 +211,11 @@ function writeCell(writer, cell, depth) {
   const color = stringIn(cell, 'backgroundColor');
   const style = color === '' ? '' : safeStyle(`background-color: ${color.replace(/;/g, '')}`, writer.styles);
   const children = childrenOf(cell);
+  const inner = within(cell, around);
   const [only, ...others] = children;
-  const isPlain = others.length === 0 && only?.type === 'paragraph' && lookOf(only) === '';
-  const look = lookOf(cell).replace(/ style="[^"]*"/, '') + (style === '' ? '' : ` style="${escaped(style)}"`);
-  writer.parts.push(`<${tag}${scope}${spans.join('')}${look}>`);
-  writeMixed(writer, isPlain ? childrenOf(only) : children, depth);
+  const isPlain = others.length === 0 && only?.type === 'paragraph' && lookOf(only, inner) === '';
+  writer.parts.push(`<${tag}${scope}${spans.join('')}${lookOf(cell, around, style)}>`);
+  writeMixed(writer, isPlain ? childrenOf(only) : children, inner);
   writer.parts.push(`</${tag}>`);
 }
 
