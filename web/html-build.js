@@ -18,7 +18,7 @@ export class Place {
   node = null;
   /** @type {Place | null} of an item: the one for its lists and what is after them */
   nest = null;
-  #holdsLists = false; // an item of nothing but lists, and what is after them
+  holdsLists = false; // an item of lists, and of what is after them
   /** @type {Place | null} of a list: its last item so far */
   lastItem = null;
   /** @type {boolean | null} */
@@ -58,10 +58,10 @@ export class Place {
   nesting() {
     const { now } = this;
     if (now.kind === 'list') return now.lastItem?.nesting() ?? new Place('item', now).nesting();
-    if (now.kind !== 'item' || now.#holdsLists) return now;
+    if (now.kind !== 'item' || now.holdsLists) return now;
     const isEmpty = now.node === null && now.checked === null;
     this.nest = isEmpty ? now : new Place('item', now.parent);
-    this.nest.#holdsLists = true;
+    this.nest.holdsLists = true;
     return this.nest;
   }
 
@@ -193,7 +193,10 @@ export class Builder {
   #putIntoItem(inlines, { align, direction }, place) {
     const node = this.open(place);
     const { children } = node;
-    if (children.length === 0) Object.assign(node, { format: align, direction });
+    if (children.length === 0) {
+      Object.assign(node, { format: align, direction });
+      place.holdsLists = false;
+    }
     const last = children.at(-1);
     if (last !== undefined && isInline(last)) {
       this.budget.takeNodes(1);

@@ -38,9 +38,13 @@ function parseInPage(html) {
   });
 }
 
+/** @type {Promise<any> | null} */
+let loading = null;
+
 /** @returns {Promise<Parse>} */
 async function parserOfNode() {
-  const parse5 = await loadedParser();
+  loading ??= loadedParser();
+  const parse5 = await loading;
   return html => {
     const treeAdapter = guarded(parse5.defaultTreeAdapter, html.length);
     const tree = parse5.parse(html, { treeAdapter, scriptingEnabled: false });

@@ -99,31 +99,37 @@ export class Reader {
   #visitElement(node, context) {
     const styles = stylesOf(node.attributes.get('style'));
     if (node.attributes.has('hidden') || isHidden(styles) || isMarker(styles)) return;
-    if (this.#addLeaf(node, context, styles)) return;
+    if (this.#addOwn(node, context, styles)) return;
     this.#enter(node, context, styles);
   }
 
   /**
-   * Adds what has no children to look at, if the node is that.
+   * Adds what an element is beside its children: void ones have some in MathML.
    * @param {ParsedNode} node
    * @param {Context} context
    * @param {Styles} styles
-   * @returns {boolean}
+   * @returns {boolean} whether its children are no more than that
    */
-  #addLeaf(node, context, styles) {
+  #addOwn(node, context, styles) {
     const { name, attributes } = node;
-    if (name === 'br') {
-      if (attributes.get('class') !== 'Apple-interchange-newline') this.#line(context).addBreak(context);
-    } else if (name === 'wbr') return true;
+    if (name === 'br') this.#addBreak(attributes, context);
     else if (name === 'hr') this.#addRule(context);
     else if (name === 'img') this.#addImage(attributes, context);
     else if (name === 'input') this.#addInput(attributes, context);
-    else if (attributes.get('data-lexical-decorator') === 'true' && attributes.has('data-src')) this.#addEmbed(attributes, context);
     else if (name === 'o:p') return isBlank(node);
-    else if (styles.has('mso-tab-count')) {
-      for (let left = tabsOf(styles); left > 0; left -= 1) this.#line(context).addTab(context);
-    } else return false;
-    return true;
+    else if (attributes.get('data-lexical-decorator') === 'true') this.#addEmbed(attributes, context);
+    if (!styles.has('mso-tab-count')) return false;
+    for (let left = tabsOf(styles); left > 0; left -= 1) this.#line(context).addTab(context);
+    return isBlank(node);
+  }
+
+  /**
+   * @param {ReadonlyMap<string, string>} attributes
+   * @param {Context} context
+   */
+  #addBreak(attributes, context) {
+    const isOfClipboard = attributes.get('class') === 'Apple-interchange-newline';
+    if (!isOfClipboard) this.#line(context).addBreak(context);
   }
 
   /** @param {Context} context */
@@ -158,7 +164,7 @@ export class Reader {
    */
   #addEmbed(attributes, context) {
     const src = attributes.get('data-src') ?? '';
-    if (isSafeAddress(src)) this.#line(context).addEmbed(src, context);
+    if (src !== '' && isSafeAddress(src)) this.#line(context).addEmbed(src, context);
   }
 
   /**
