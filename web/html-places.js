@@ -23,7 +23,7 @@ export function placeWithin(node, context, styles) {
     case 'ul': case 'ol': case 'menu': case 'dir': return listWithin(node, context);
     case 'li': return itemWithin(node, context);
     case 'blockquote': return quoteWithin(context);
-    case 'table': return hasRoom(place.outer, 6) ? new Place('table', place.outer) : place;
+    case 'table': return hasRoom(place.outer, 6) ? new Place('table', place.outer, fieldsOf(context)) : place;
     case 'tr': return place.kind === 'table' ? new Place('row', place, fieldsOf(context)) : place;
     case 'td': case 'th': return place.kind === 'row' ? cellWithin(node, context, styles) : place;
     case 'caption': return place.outer;

@@ -116,7 +116,7 @@ export class Reader {
     else if (name === 'hr') this.#addRule(context);
     else if (name === 'img') this.#addImage(attributes, context);
     else if (name === 'input') this.#addInput(attributes, context);
-    else if (name === 'o:p') return isBlank(node);
+    else if (name === 'o:p' && isBlank(node)) return this.#addBlank(node, context);
     else if (attributes.get('data-lexical-decorator') === 'true') this.#addEmbed(attributes, context);
     if (!styles.has('mso-tab-count')) return false;
     for (let left = tabsOf(styles); left > 0; left -= 1) this.#line(context).addTab(context);
@@ -130,6 +130,17 @@ export class Reader {
   #addBreak(attributes, context) {
     const isOfClipboard = attributes.get('class') === 'Apple-interchange-newline';
     if (!isOfClipboard) this.#line(context).addBreak(context);
+  }
+
+  /**
+   * A space of Word's, which is there so that an empty paragraph has a height.
+   * @param {ParsedNode} node
+   * @param {Context} context
+   */
+  #addBlank({ children }, context) {
+    const isAlone = !this.#builder.line?.isShown && children.some(({ text }) => text?.includes('\u00a0'));
+    if (isAlone) this.#line(context).addBreak(context);
+    return true;
   }
 
   /** @param {Context} context */

@@ -6,7 +6,7 @@ import { join } from 'node:path';
 import test from 'node:test';
 import { htmlFromDocument, sliceFromHtml } from '../html.js';
 import { again, chance, pasted, short, skip, someHtml, textOf } from './html.mjs';
-import { top } from './helper.mjs';
+import { top, web } from './helper.mjs';
 
 /** The text that parse5 finds, without white space, and with what stands for images. */
 function textByParser(html) {
@@ -27,6 +27,19 @@ test('HTML by chance is pasted with all of its text, and is the same when it is 
     assert.equal(textOf(root.children), textByParser(html), `seed ${seed}: ${html}`);
     assert.equal(textOf(slice.nodes), textByParser(html), `seed ${seed}: ${html}`);
     assert.equal(short((await again(slice)).nodes), short(slice.nodes), `seed ${seed}: ${html}`);
+  }
+});
+
+const samples = join(web, 'test', 'samples');
+
+test('samples are read as they look', { skip }, async () => {
+  const names = readdirSync(samples).filter(name => name.endsWith('.html'));
+  assert.equal(names.length, 7);
+  for (const name of names) {
+    const slice = await sliceFromHtml(readFileSync(join(samples, name), 'utf8'));
+    assert.deepEqual(slice, JSON.parse(readFileSync(join(samples, name.replace(/html$/, 'json')), 'utf8')), name);
+    assert.deepEqual(pasted(slice).root.children, slice.nodes, name);
+    assert.deepEqual(await again(slice), slice, name);
   }
 });
 
