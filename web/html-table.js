@@ -30,9 +30,8 @@ export function spanOf(value, least) {
 export function mended(table, facts, budget) {
   const rows = /** @type {Element[]} */ (table.children);
   if (rows.every(row => row.children.length === 0)) return false;
+  fillHoles(rows, setSpans(rows), budget);
   setHeaders(rows, facts);
-  const width = setSpans(rows);
-  fillHoles(rows, width, budget);
   return true;
 }
 

@@ -71,9 +71,9 @@ const texts = ['a', ' b ', 'c\n d', ' ', '\t', 'e  f', '\n', 'é😀', '&nbsp;',
 const leaves = ['<br>', '<hr>', '<input type=checkbox checked>', '<img alt="k l" src=x>', '<!-- m -->', '<input type=checkbox>', '<wbr>'];
 
 /** HTML by chance, with tags that are left open or stand where they may not. */
-export function someHtml(random, depth = 7) {
+export function someHtml(random, depth = 4 + random(3)) {
   let html = '';
-  for (let left = random(4) + (depth > 5 ? 1 : 0); left > 0; left -= 1) {
+  for (let left = random(4) + (depth > 3 ? 1 : 0); left > 0; left -= 1) {
     const kind = random(10);
     if (kind < 3 || depth === 0) html += texts[random(texts.length)];
     else if (kind === 3) html += leaves[random(leaves.length)];
@@ -83,4 +83,34 @@ export function someHtml(random, depth = 7) {
     }
   }
   return html;
+}
+
+/** A document by chance, of all that a document may hold and HTML can say. */
+export function someDocument(random) {
+  const pick = (...values) => values[random(values.length)];
+  const many = (most, make) => Array.from({ length: random(most + 1) }, make);
+  const look = () => (random(4) ? {} : { direction: pick('ltr', 'rtl', null), format: pick('', 'center', 'left', 'right', 'justify', 'end'), indent: pick(0, 1, 3) });
+  const text = () => ({ type: 'text', text: pick('a', ' b', 'c ', '  ', 'd\u00a0', 'e  f', '<&>"', '😀', ' '), format: pick(0, 0, 1, 3, 255 - 32, 16, 128, 64) });
+  const inline = () => pick(text, text, text, () => ({ type: 'linebreak' }), () => ({ type: 'tab', format: pick(0, 1) }),
+    () => ({ type: 'embed', src: 'https://example.org/e' }))();
+  const link = () => ({ type: 'link', url: pick('/a', 'https://example.org/?b=1&c="', '#d'), title: pick(null, 'e"f'), target: pick(null, '_blank'), children: [text(), ...many(2, inline)] });
+  const inlines = () => many(4, () => pick(inline, inline, inline, link)());
+  const paragraph = () => ({ type: 'paragraph', ...look(), children: inlines() });
+  const heading = () => ({ type: 'heading', tag: `h${1 + random(6)}`, ...look(), children: inlines() });
+  const list = depth => ({
+    type: 'list', listType: pick('bullet', 'number', 'check'), start: pick(1, 1, 7), ...look(),
+    children: [item(depth), ...many(3, () => item(depth))],
+  });
+  const item = depth => ({
+    type: 'listitem', ...look(), checked: pick(null, true, false),
+    children: depth > 0 && random(3) === 0 ? [list(depth - 1), ...many(1, text)] : inlines(),
+  });
+  const quote = () => ({ type: 'quote', ...look(), children: random(2) ? inlines() : [paragraph(), ...many(2, () => pick(paragraph, heading, () => list(1))())] });
+  const cell = depth => ({
+    type: 'tablecell', headerState: pick(0, 0, 0, 1, 2, 3), colSpan: 1 + random(2), rowSpan: 1 + random(2), backgroundColor: pick(null, 'red', '#abc'),
+    ...look(), children: [block(depth), ...many(1, () => block(depth))],
+  });
+  const table = depth => ({ type: 'table', ...look(), children: [0, ...many(2, () => 0)].map(() => ({ type: 'tablerow', children: [cell(depth), ...many(2, () => cell(depth))] })) });
+  const block = depth => pick(paragraph, paragraph, heading, quote, () => list(1), () => (depth > 0 ? table(depth - 1) : { type: 'horizontalrule' }))();
+  return { root: { children: [block(1), ...many(3, () => block(1))] } };
 }

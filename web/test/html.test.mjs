@@ -5,7 +5,7 @@ import { readFileSync, readdirSync } from 'node:fs';
 import { join } from 'node:path';
 import test from 'node:test';
 import { htmlFromDocument, sliceFromHtml } from '../html.js';
-import { again, chance, pasted, short, skip, someHtml, textOf } from './html.mjs';
+import { again, chance, pasted, short, skip, someDocument, someHtml, textOf } from './html.mjs';
 import { top, web } from './helper.mjs';
 
 /** The text that parse5 finds, without white space, and with what stands for images. */
@@ -24,8 +24,9 @@ test('HTML by chance is pasted with all of its text, and is the same when it is 
     const html = someHtml(chance(seed));
     const slice = await sliceFromHtml(html);
     const { root } = pasted(slice);
-    assert.equal(textOf(root.children), textByParser(html), `seed ${seed}: ${html}`);
-    assert.equal(textOf(slice.nodes), textByParser(html), `seed ${seed}: ${html}`);
+    const text = textByParser(html);
+    assert.equal(textOf(root.children), text, `seed ${seed}: ${html}`);
+    assert.equal(textOf(slice.nodes), text, `seed ${seed}: ${html}`);
     assert.equal(short((await again(slice)).nodes), short(slice.nodes), `seed ${seed}: ${html}`);
   }
 });
@@ -49,6 +50,17 @@ test('documents of the examples', { skip }, async () => {
     const slice = await sliceFromHtml(htmlFromDocument(document));
     assert.equal(textOf(slice.nodes), textOf(document.root.children), name);
     assert.deepEqual(await again(slice), slice, name);
+    pasted(slice);
+  }
+});
+
+test('documents by chance are the same once they were written and read', { skip }, async () => {
+  for (let seed = 0; seed < 200; seed += 1) {
+    const document = someDocument(chance(seed));
+    const html = htmlFromDocument(document);
+    const slice = await sliceFromHtml(html);
+    assert.equal(textOf(slice.nodes), textOf(document.root.children), `seed ${seed}: ${html}`);
+    assert.equal(short((await again(slice)).nodes), short(slice.nodes), `seed ${seed}: ${html}`);
     pasted(slice);
   }
 });
