@@ -1,7 +1,7 @@
-// Builds the nodes of a slice out of lines, each with the place where it belongs. A place is an element that may come to
-// be: it is made once something belongs into it, and made again where what came between may not be in it.
+// Builds the nodes of a slice out of lines, each with the place where it belongs. A place is an element that may come
+// to be: it is made once something belongs into it, and made again where what came between may not be in it.
 import { Line } from './html-line.js';
-import { Budget, breakNode, element, isInline } from './html-nodes.js';
+import { Budget, MOST_START, breakNode, element, isInline } from './html-nodes.js';
 import { mended } from './html-table.js';
 
 /** @typedef {import('./html-nodes.js').Node} Node */
@@ -74,7 +74,9 @@ export class Place {
   }
 }
 
-const types = { root: 'root', quote: 'quote', list: 'list', item: 'listitem', table: 'table', row: 'tablerow', cell: 'tablecell' };
+const types = {
+  root: 'root', quote: 'quote', list: 'list', item: 'listitem', table: 'table', row: 'tablerow', cell: 'tablecell',
+};
 
 export class Builder {
   budget = new Budget();
@@ -210,7 +212,8 @@ export class Builder {
     const parent = /** @type {Place} */ (place.parent);
     this.budget.takeNodes(1);
     const node = element(types[place.kind], { ...place.members });
-    if (place.kind === 'list' && node.listType === 'number') node.start = Math.min(node.start + place.count, 1_000_000);
+    const isNumbered = place.kind === 'list' && node.listType === 'number';
+    if (isNumbered) node.start = Math.min(node.start + place.count, MOST_START);
     if (place.kind === 'item' && place.checked !== null) node.checked = place.checked;
     if (place.facts !== null) this.#cells.set(node, place.facts);
     place.node = node;

@@ -47,8 +47,8 @@ export function blockContext(node, around, styles) {
   const format = formatWithin(around.format, name, styles, { isBlock: true, isInLink: around.link !== null });
   const direction = directionWithin(around.direction, attributes);
   const align = alignWithin(around.align, name, styles, attributes.get('align') ?? '');
-  const isIndented = name === 'p' || /^h[1-6]$/.test(name);
-  const block = { name: nameWithin(around.block, name), align, direction, indent: isIndented ? indentOf(styles) : around.block.indent };
+  const indent = name === 'p' || /^h[1-6]$/.test(name) ? indentOf(styles) : around.block.indent;
+  const block = { name: nameWithin(around.block, name), align, direction, indent };
   const context = { ...around, format, direction, align, block, spaces: spacesWithin(around.spaces, name, styles) };
   if (name === 'thead') context.isInHead = true;
   context.place = placeWithin(node, context, styles);

@@ -11,7 +11,8 @@ import { isSafeAddress, safeStyle } from './safe.js';
 
 /** Outermost first. */
 const tags = /** @type {const} */ ([
-  [BOLD, 'strong'], [ITALIC, 'em'], [UNDERLINE, 'u'], [STRIKE, 's'], [HIGHLIGHT, 'mark'], [SUB, 'sub'], [SUPER, 'sup'], [CODE, 'code'],
+  [BOLD, 'strong'], [ITALIC, 'em'], [UNDERLINE, 'u'], [STRIKE, 's'],
+  [HIGHLIGHT, 'mark'], [SUB, 'sub'], [SUPER, 'sup'], [CODE, 'code'],
 ]);
 
 /**
@@ -26,7 +27,7 @@ export function writeInlines(writer, inlines, childrenOf) {
     if (node.type !== 'link') writeLeaf(writer, node, kept);
     else writeLink(writer, node, childrenOf(node), kept);
   }
-  if (leaves.at(-1)?.type === 'linebreak') writer.parts.push('<br>'); // the last one of a block shows nothing
+  if (leaves.at(-1)?.type === 'linebreak') writer.parts.push('<br>'); // the last one shows nothing
 }
 
 /**
@@ -45,7 +46,8 @@ function keptSpaces(leaves) {
     if (text === '') return;
     const next = leaves[at + 1];
     const isLast = next === undefined || next.type === 'linebreak';
-    const isOdd = /[\t\n\r\f]| {2}/.test(text) || (isBehindSpace && text.startsWith(' ')) || (isLast && text.endsWith(' '));
+    const isAtEdge = (isBehindSpace && text.startsWith(' ')) || (isLast && text.endsWith(' '));
+    const isOdd = isAtEdge || /[\t\n\r\f]| {2}/.test(text);
     if (isOdd) kept.add(leaf);
     isBehindSpace = !isOdd && text.endsWith(' ');
   });
@@ -62,10 +64,11 @@ function writeLink(writer, link, children, kept) {
   const url = stringIn(link, 'url');
   const isSafe = url !== '' && isSafeAddress(url, writer.schemes);
   const target = stringIn(link, 'target');
-  const attributes = { href: url, target, rel: relOf(stringIn(link, 'rel') || null, target || null) ?? '', title: stringIn(link, 'title') };
+  const rel = relOf(stringIn(link, 'rel') || null, target || null) ?? '';
+  const attributes = Object.entries({ href: url, target, rel, title: stringIn(link, 'title') });
   if (isSafe) {
-    const named = Object.entries(attributes).filter(([, value]) => value !== '').map(([name, value]) => ` ${name}="${escaped(value)}"`);
-    writer.parts.push(`<a${named.join('')}>`);
+    const told = attributes.filter(([, value]) => value !== '').map(([name, value]) => ` ${name}="${escaped(value)}"`);
+    writer.parts.push(`<a${told.join('')}>`);
   }
   for (const child of children) writeLeaf(writer, child, kept);
   if (isSafe) writer.parts.push('</a>');
@@ -90,7 +93,8 @@ function writeLeaf(writer, node, kept) {
  */
 function writeEmbed(writer, node) {
   const src = stringIn(node, 'src');
-  if (isSafeAddress(src, writer.schemes)) writer.parts.push(`<span data-lexical-decorator="true" data-src="${escaped(src)}"></span>`);
+  if (!isSafeAddress(src, writer.schemes)) return;
+  writer.parts.push(`<span data-lexical-decorator="true" data-src="${escaped(src)}"></span>`);
 }
 
 /**
@@ -102,7 +106,8 @@ function writeEmbed(writer, node) {
 function writeText(writer, node, text, keepsSpaces) {
   if (text === '') return;
   const format = numberIn(node, 'format', 0, 65_535, 0);
-  const style = [safeStyle(stringIn(node, 'style'), writer.styles), keepsSpaces ? 'white-space: pre-wrap' : ''].filter(Boolean).join('; ');
+  const styles = [safeStyle(stringIn(node, 'style'), writer.styles), keepsSpaces ? 'white-space: pre-wrap' : ''];
+  const style = styles.filter(Boolean).join('; ');
   const names = tags.filter(([bit]) => format & bit).map(([, name]) => name);
   const opened = names.map(name => `<${name}>`).join('');
   const closed = [...names].reverse().map(name => `</${name}>`).join('');
@@ -110,13 +115,12 @@ function writeText(writer, node, text, keepsSpaces) {
   writer.parts.push(opened, inner, closed);
 }
 
-/**
- * @param {string} text
- */
-function escaped(text) {
+/** @param {string} text */
+export function escaped(text) {
   return text.replace(/[&<>"\r\u0000\u00a0]/g, character => characters.get(character) ?? character);
 }
 
 const characters = new Map([
-  ['&', '&amp;'], ['<', '&lt;'], ['>', '&gt;'], ['"', '&quot;'], ['\r', '&#13;'], ['\u0000', '\ufffd'], ['\u00a0', '&nbsp;'],
+  ['&', '&amp;'], ['<', '&lt;'], ['>', '&gt;'], ['"', '&quot;'],
+  ['\r', '&#13;'], ['\u0000', '\ufffd'], ['\u00a0', '&nbsp;'],
 ]);

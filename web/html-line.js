@@ -84,7 +84,8 @@ export class Line {
    */
   #addCollapsed(text, look) {
     const collapsed = text.replace(/[ \t\n\r\f]+/g, ' ');
-    const shown = collapsed.startsWith(' ') && (this.#isAtStart || this.#endsWithSpace) ? collapsed.slice(1) : collapsed;
+    const isDropped = collapsed.startsWith(' ') && (this.#isAtStart || this.#endsWithSpace);
+    const shown = isDropped ? collapsed.slice(1) : collapsed;
     if (shown === '') return;
     this.#append(shown, look);
     this.#endsWithSpace = shown.endsWith(' ');

@@ -9,6 +9,8 @@ import { ContentError } from './content-error.js';
 export const DEEPEST = 48;
 const MOST_NODES = 16_382; // beside the root, and the paragraph that is pasted into
 const MOST_CHARACTERS = 1_048_576;
+/** What a list may start with. */
+export const MOST_START = 1_000_000;
 
 /**
  * @param {string} type
@@ -25,16 +27,30 @@ export function element(type, members = {}) {
  * @param {number} format
  * @returns {Node}
  */
-export const textNode = (text, format) => ({ type: 'text', text, format, style: '', detail: 0, mode: 'normal', version: 1 });
+export function textNode(text, format) {
+  return { type: 'text', text, format, style: '', detail: 0, mode: 'normal', version: 1 };
+}
 
 /**
  * @param {number} format
  * @returns {Node}
  */
-export const tabNode = format => ({ type: 'tab', text: '\t', format, style: '', detail: 2, mode: 'normal', version: 1 });
+export function tabNode(format) {
+  return { type: 'tab', text: '\t', format, style: '', detail: 2, mode: 'normal', version: 1 };
+}
 
 /** @returns {Node} */
 export const breakNode = () => ({ type: 'linebreak', version: 1 });
+
+/**
+ * What a list says of itself.
+ * @param {boolean} isNumbered
+ * @param {number} start
+ */
+export function listMembers(isNumbered, start) {
+  if (!isNumbered) return { listType: 'bullet', start: 1, tag: 'ul' };
+  return { listType: 'number', start: Math.min(start, MOST_START), tag: 'ol' };
+}
 
 const inlineTypes = new Set(['text', 'tab', 'linebreak', 'link', 'embed']);
 

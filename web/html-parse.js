@@ -7,7 +7,7 @@ import { ContentError } from './content-error.js';
 /** @typedef {(html: string) => ParsedNode} Parse */
 
 const LONGEST = 16_777_216; // code units: no line may be longer than so many bytes
-const DEEPEST = 512; // levels that parse5 may open, since it looks through all that are open at each tag; Chrome's limit
+const DEEPEST = 512; // levels, as in Chrome: parse5 looks through all that are open at each tag
 const MOST_WORK = 20_000_000; // levels that are open, summed over all elements
 
 /** @type {ReadonlyMap<string, string>} */
@@ -22,7 +22,7 @@ export function parserHere() {
 }
 
 /**
- * Checks what is to be parsed. Halves of surrogate pairs would be refused by the core.
+ * Checks the length of what is to be parsed.
  * @param {string} html
  */
 export function parsable(html) {
@@ -33,7 +33,7 @@ export function parsable(html) {
 /** @type {Parse} */
 function parseInPage(html) {
   return copied(new DOMParser().parseFromString(html, 'text/html'), {
-    nameOf: node => (node.nodeType === 3 || node.nodeType === 4 ? '#text' : node.nodeType === 8 ? '#comment' : node.localName),
+    nameOf: node => node.localName ?? (node.nodeName === '#cdata-section' ? '#text' : node.nodeName),
     textOf: node => node.data,
   });
 }
@@ -113,7 +113,7 @@ function copied(root, { nameOf, textOf }) {
   for (let next = open.pop(); next; next = open.pop()) {
     const [from, into] = next;
     for (const child of from.childNodes ?? []) {
-      const name = nameOf(child)?.toLowerCase() ?? '#comment';
+      const name = nameOf(child).toLowerCase();
       const isText = name === '#text' || name === '#comment';
       /** @type {Made} */
       const made = { name, attributes: attributesOf(child), children: [], text: isText ? textOf(child) ?? '' : null };

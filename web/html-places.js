@@ -1,6 +1,6 @@
 // Where what is within a block belongs: in lists, items, quotes and tables, as far as the core takes them.
 import { Place } from './html-build.js';
-import { DEEPEST } from './html-nodes.js';
+import { DEEPEST, listMembers } from './html-nodes.js';
 import { backgroundOf, stylesOf } from './html-style.js';
 import { cellMembers, spanOf } from './html-table.js';
 import { MOST_LEVELS, wordItemOf, wordLevelOf, wordListOf } from './html-word.js';
@@ -66,9 +66,7 @@ function listWithin({ name, attributes }, context) {
   if (!hasRoom(parent, 5)) return place.kind === 'item' ? /** @type {Place} */ (place.parent) : place;
   const isNumbered = name === 'ol';
   const start = Number.parseInt(attributes.get('start') ?? '', 10);
-  const members = { listType: isNumbered ? 'number' : 'bullet', start: 1, tag: isNumbered ? 'ol' : 'ul', ...fieldsOf(context) };
-  if (isNumbered && start >= 0) members.start = Math.min(start, 1_000_000);
-  return new Place('list', parent, members);
+  return new Place('list', parent, { ...listMembers(isNumbered, start >= 0 ? start : 1), ...fieldsOf(context) });
 }
 
 /**
@@ -90,7 +88,7 @@ function itemWithin(node, context) {
  */
 function strayList(place) {
   const parent = place.kind === 'quote' ? place : place.outer;
-  return new Place('list', parent, { listType: 'bullet', start: 1, tag: 'ul' });
+  return new Place('list', parent, listMembers(false, 1));
 }
 
 /**

@@ -1,4 +1,4 @@
-// Reads parsed HTML into the nodes of a slice: one walk over the tree, without recursion, since pages nest as they like.
+// Reads parsed HTML into the nodes of a slice: one walk over the tree, without recursion, as pages nest as they like.
 import { Builder } from './html-build.js';
 import { blockContext, firstContext, inlineContext } from './html-context.js';
 import { isHidden, stylesOf } from './html-style.js';
@@ -156,7 +156,8 @@ export class Reader {
    */
   #addImage(attributes, context) {
     const text = attributes.get('alt') ?? '';
-    if (text !== '' && attributes.get('aria-roledescription') !== 'checkbox') this.#line(context).addText(text, context, 'normal');
+    const isCheck = attributes.get('aria-roledescription') === 'checkbox';
+    if (text !== '' && !isCheck) this.#line(context).addText(text, context, 'normal');
   }
 
   /**
@@ -195,7 +196,8 @@ export class Reader {
     if (!isBlock) return;
     this.#builder.endLine();
     const isItem = place.kind === 'item' && (name === 'li' || place.parent?.isWordList === true);
-    const isOfTable = (place.kind === 'row' && name === 'tr') || (place.kind === 'cell' && (name === 'td' || name === 'th'));
-    if ((isItem || isOfTable) && place.node === null) this.#builder.open(place);
+    const isRow = place.kind === 'row' && name === 'tr';
+    const isCell = place.kind === 'cell' && /^t[dh]$/.test(name);
+    if ((isItem || isRow || isCell) && place.node === null) this.#builder.open(place);
   }
 }

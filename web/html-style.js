@@ -12,7 +12,9 @@ const formatsByTag = new Map([
   ...['s', 'strike', 'del'].map(name => /** @type {const} */ ([name, STRIKE])),
   ...['u', 'ins'].map(name => /** @type {const} */ ([name, UNDERLINE])),
   ...['code', 'kbd', 'samp', 'tt', 'pre', 'listing', 'xmp'].map(name => /** @type {const} */ ([name, CODE])),
-  /** @type {const} */ (['sub', SUB]), /** @type {const} */ (['sup', SUPER]), /** @type {const} */ (['mark', HIGHLIGHT]),
+  ...['sub'].map(name => /** @type {const} */ ([name, SUB])),
+  ...['sup'].map(name => /** @type {const} */ ([name, SUPER])),
+  ...['mark'].map(name => /** @type {const} */ ([name, HIGHLIGHT])),
 ]);
 
 /** @type {Styles} */
@@ -87,6 +89,8 @@ function decorated(format, styles, isInLink) {
   return found;
 }
 
+const plainColors = /^(black|white|silver|gainsboro|whitesmoke|snow|ivory|(light|dark|dim)?gr[ae]y)$/;
+
 /**
  * Whether a background is a marker's: pages and dark themes have white, black and greys behind all of their text.
  * @param {Styles} styles
@@ -94,7 +98,7 @@ function decorated(format, styles, isInLink) {
 function isHighlighted(styles) {
   if (styles.has('mso-highlight')) return styles.get('mso-highlight') !== 'none';
   const color = backgroundOf(styles);
-  if (color === null || /^(black|white|gr[ae]y|silver|gainsboro|whitesmoke|snow|ivory|(light|dark|dim)gr[ae]y)$/.test(color)) return false;
+  if (color === null || plainColors.test(color)) return false;
   const parts = channelsOf(color);
   if (parts === null) return /^[a-z]+$/.test(color);
   return parts.alpha > 0 && Math.max(...parts.rgb) - Math.min(...parts.rgb) >= 24;
@@ -151,13 +155,13 @@ export function spacesWithin(around, name, styles) {
 export function alignWithin(around, name, styles, attribute) {
   if (name === 'table') return '';
   const value = styles.get('text-align') ?? (name === 'center' ? 'center' : attribute.toLowerCase());
-  if (value === 'left' || value === 'center' || value === 'right' || value === 'justify' || value === 'end') return value;
+  if (/^(left|center|right|justify|end)$/.test(value)) return /** @type {Align} */ (value);
   return value === 'start' || value === 'initial' ? '' : around;
 }
 
 /** How wide a step of indentation is. */
 export const STEP = 40;
-const sizes = new Map([['px', 1], ['pt', 4 / 3], ['in', 96], ['cm', 96 / 2.54], ['mm', 96 / 25.4], ['em', 16], ['rem', 16]]);
+const sizes = new Map(Object.entries({ px: 1, pt: 4 / 3, in: 96, cm: 96 / 2.54, mm: 96 / 25.4, em: 16, rem: 16 }));
 
 /**
  * Steps of indentation, of a paragraph or a heading.

@@ -5,7 +5,7 @@ import { element } from './html-nodes.js';
 /** @typedef {import('./html-nodes.js').Element} Element */
 /** @typedef {import('./html-nodes.js').Budget} Budget */
 /** @typedef {{ isHeader: boolean, scope: string, isInHead: boolean }} CellFacts */
-/** @typedef {{ from: number, to: number, rows: number }} Taken columns that a cell from above covers, for so many rows */
+/** @typedef {{ from: number, to: number, rows: number }} Taken columns that a cell from above covers in more rows */
 
 const MOST_SPAN = 1000;
 const BY_ROW = 1, BY_COLUMN = 2;
@@ -47,7 +47,8 @@ function setHeaders(rows, facts) {
   for (const row of filled) {
     const isHeaderRow = row.children.every(isHeader);
     row.children.forEach((cell, index) => {
-      if (isHeader(cell)) cell.headerState = headerOf(/** @type {CellFacts} */ (facts.get(cell)), isHeaderRow, isHeaderColumn && index === 0);
+      const told = facts.get(cell);
+      if (told?.isHeader) cell.headerState = headerOf(told, isHeaderRow, isHeaderColumn && index === 0);
     });
   }
 }

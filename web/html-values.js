@@ -37,6 +37,6 @@ export function numberIn(node, name, least, most, missing) {
 export function wordIn(node, name, words, missing) {
   const value = node[name] ?? missing;
   if (value === missing) return missing;
-  if (typeof value !== 'string' || !words.includes(value)) throw new ContentError('document', `\`${name}\` is none of its words`);
-  return value;
+  if (typeof value === 'string' && words.includes(value)) return value;
+  throw new ContentError('document', `\`${name}\` is none of its words`);
 }

@@ -1,5 +1,6 @@
 // What Word writes in a way of its own: lists as paragraphs that tell their level, tabs as spaces, empty paragraphs.
 import { Place } from './html-build.js';
+import { listMembers } from './html-nodes.js';
 import { stylesOf } from './html-style.js';
 
 /** @typedef {import('./html.js').ParsedNode} ParsedNode */
@@ -54,9 +55,8 @@ export function wordListOf(node, place, level, fields) {
   const levels = place.wordLevels.slice(0, level);
   if (levels.length === level && levels[level - 1].key !== key) levels.pop();
   while (levels.length < level) {
-    const isLast = levels.length === level - 1;
-    const start = isLast && /^\d+$/.test(number ?? '') ? Math.min(Number(number), 1_000_000) : 1;
-    const members = number === undefined ? { listType: 'bullet', start: 1, tag: 'ul' } : { listType: 'number', start, tag: 'ol' };
+    const isTold = levels.length === level - 1 && /^\d+$/.test(number ?? '');
+    const members = listMembers(number !== undefined, isTold ? Number(number) : 1);
     const above = levels.at(-1)?.list;
     const list = new Place('list', above === undefined ? place : above.nesting(), { ...members, ...fields });
     list.isWordList = true;

@@ -1,7 +1,7 @@
 // A document or a slice as HTML that says what things are, for files and for the clipboard.
 import { ContentError } from './content-error.js';
+import { escaped, writeInlines } from './html-inlines.js';
 import { isInline } from './html-nodes.js';
-import { writeInlines } from './html-inlines.js';
 import { STEP } from './html-style.js';
 import { numberIn, stringIn, wordIn } from './html-values.js';
 import { safeProperties, safeSchemes, safeStyle } from './safe.js';
@@ -11,6 +11,7 @@ import { safeProperties, safeSchemes, safeStyle } from './safe.js';
 /** @typedef {{ depth: number, align: string, direction: string }} Around what holds around a node */
 
 const DEEPEST = 64; // levels: what the core takes, and some
+const headings = ['h1', 'h2', 'h3', 'h4', 'h5', 'h6'];
 
 /**
  * @param {import('./html.js').Document | import('./html.js').Slice} document
@@ -24,7 +25,7 @@ export function htmlFromDocument(document, options = {}) {
   const list = root === undefined ? nodes : objectOf(root).children;
   /** @type {Writer} */
   const writer = { schemes, styles, parts: [] };
-  if (!Array.isArray(list)) throw new ContentError('document', 'neither a document nor a slice: it has no root and no nodes');
+  if (!Array.isArray(list)) throw new ContentError('document', 'neither a document nor a slice: there are no nodes');
   writeMixed(writer, childrenOf({ children: list }), { depth: 1, align: '', direction: '' });
   return writer.parts.join('');
 }
@@ -34,7 +35,8 @@ export function htmlFromDocument(document, options = {}) {
  * @returns {Values}
  */
 function objectOf(value) {
-  if (typeof value !== 'object' || value === null || Array.isArray(value)) throw new ContentError('document', 'a node is no object');
+  const isObject = typeof value === 'object' && value !== null && !Array.isArray(value);
+  if (!isObject) throw new ContentError('document', 'a node is no object');
   return /** @type {Values} */ (value);
 }
 
@@ -77,7 +79,7 @@ function writeMixed(writer, nodes, around) {
 function writeBlock(writer, node, around) {
   switch (node.type) {
     case 'paragraph': return writeLine(writer, 'p', node, around);
-    case 'heading': return writeLine(writer, wordIn(node, 'tag', ['h1', 'h2', 'h3', 'h4', 'h5', 'h6'], 'h1'), node, around);
+    case 'heading': return writeLine(writer, wordIn(node, 'tag', headings, 'h1'), node, around);
     case 'quote': return writeLine(writer, 'blockquote', node, around);
     case 'list': return writeList(writer, node, around);
     case 'table': return writeTable(writer, node, around);
@@ -101,8 +103,8 @@ function writeLine(writer, tag, node, around) {
 }
 
 /**
- * The attributes of an element: its direction, its alignment and its indentation, and that it has none where others would
- * go down to it from around.
+ * The attributes of an element: its direction, its alignment and its indentation. It says so if it has none of its own,
+ * where one would go down to it from around.
  * @param {Values} node
  * @param {Around} around
  * @param {string} [style] another declaration
@@ -139,7 +141,8 @@ function writeList(writer, list, around) {
   const start = numberIn(list, 'start', 0, 1_000_000, 1);
   const tag = type === 'number' ? 'ol' : 'ul';
   const kind = type === 'check' ? ' class="contains-task-list"' : '';
-  writer.parts.push(`<${tag}${kind}${type === 'number' && start !== 1 ? ` start="${start}"` : ''}${lookOf(list, around)}>`);
+  const first = type === 'number' && start !== 1 ? ` start="${start}"` : '';
+  writer.parts.push(`<${tag}${kind}${first}${lookOf(list, around)}>`);
   const inner = within(list, around);
   let isOpen = false, shown = inner;
   const items = childrenOf(list);
@@ -170,8 +173,8 @@ const isNesting = item => item !== undefined && childrenOf(item)[0]?.type === 'l
  */
 function itemStart(item, isCheck, around) {
   if (!isCheck) return `<li${lookOf(item, around)}>`;
-  const isChecked = item.checked === true;
-  return `<li class="task-list-item"${lookOf(item, around)}><input type="checkbox"${isChecked ? ' checked' : ''} disabled> `;
+  const checked = item.checked === true ? ' checked' : '';
+  return `<li class="task-list-item"${lookOf(item, around)}><input type="checkbox"${checked} disabled> `;
 }
 
 /**
@@ -218,6 +221,3 @@ function writeCell(writer, cell, around) {
   writeMixed(writer, isPlain ? childrenOf(only) : children, inner);
   writer.parts.push(`</${tag}>`);
 }
-
-/** @param {string} text */
-const escaped = text => text.replace(/&/g, '&amp;').replace(/"/g, '&quot;').replace(/</g, '&lt;');

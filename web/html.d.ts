@@ -31,7 +31,7 @@ export interface WritingOptions {
 export function sliceFromHtml(html: string, options?: ReadingOptions): Promise<Slice> | Slice;
 
 /**
- * A document or a slice as HTML for files and for the clipboard, without scripts and without addresses that aren't safe.
- * Throws a `ContentError` of code `document` or `depth` for what is none.
+ * A document or a slice as HTML for files and for the clipboard, without scripts, and addresses and styles that aren't
+ * safe. Throws a `ContentError` of code `document` or `depth` for what is none.
  */
 export function htmlFromDocument(document: Document | Slice, options?: WritingOptions): string;

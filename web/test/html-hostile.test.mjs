@@ -7,6 +7,8 @@ import { again, pasted, short, skip, textOf } from './html.mjs';
 
 const LONGEST = 8000; // milliseconds on a busy machine; a second or two on an idle one
 
+const isContent = code => error => error instanceof ContentError && error.code === code;
+
 /** A slice, or the code of the error. */
 async function outcome(html) {
   const start = performance.now();
@@ -21,14 +23,15 @@ async function outcome(html) {
   }
 }
 
-const addresses = ['javascript:alert(1)', ' JaVaScRiPt:alert(1)', 'java\nscript:alert(1)', '\u0001javascript:alert(1)', 'data:text/html,x',
-  'vbscript:x', 'file:///etc/passwd', 'javascript&colon;alert(1)', 'blob:https://x/y', '&#106;avascript:alert(1)'];
+const addresses = ['javascript:alert(1)', ' JaVaScRiPt:alert(1)', 'java\nscript:alert(1)', '\u0001javascript:alert(1)',
+  'data:text/html,x', 'vbscript:x', 'file:///etc/passwd', 'javascript&colon;alert(1)', 'blob:https://x/y',
+  '&#106;avascript:alert(1)'];
 
 test('addresses that run something are no links, read or written', { skip }, async () => {
   for (const url of addresses) {
     assert.equal(short((await sliceFromHtml(`<a href="${url}">a</a>`)).nodes), '"a"', url);
-    const written = htmlFromDocument({ namespace: 'lexical-core', nodes: [{ type: 'link', url, children: [{ type: 'text', text: 'a' }] }] });
-    assert.equal(written, 'a', url);
+    const link = { type: 'link', url, children: [{ type: 'text', text: 'a' }] };
+    assert.equal(htmlFromDocument({ nodes: [link] }), 'a', url);
     assert.equal(htmlFromDocument({ nodes: [{ type: 'embed', src: url }] }), '', url);
   }
   for (const url of ['https://a.b/?c=d&e', 'mailto:a@b', '/c', '#d', 'e/f', '//g/h', 'tel:1']) {
@@ -67,8 +70,10 @@ test('texts, styles and attributes of documents stay what they are when they are
   const evil = '"><script>alert(1)</script><img src=x onerror=alert(1)>\'';
   const text = { type: 'text', text: evil, style: `color: red; background: url(//x); color:${evil}`, format: 255 };
   const link = { type: 'link', url: `/${evil}`, title: evil, rel: evil, target: evil, children: [text] };
-  const cell = { type: 'tablecell', backgroundColor: `${evil};position:fixed`, children: [{ type: 'paragraph', children: [link] }] };
-  const html = htmlFromDocument({ root: { children: [{ type: 'table', children: [{ type: 'tablerow', children: [cell] }] }] } });
+  const children = [{ type: 'paragraph', children: [link] }];
+  const cell = { type: 'tablecell', backgroundColor: `${evil};position:fixed`, children };
+  const table = { type: 'table', children: [{ type: 'tablerow', children: [cell] }] };
+  const html = htmlFromDocument({ root: { children: [table] } });
   const tags = html.match(/<[a-z]+(?: [a-z-]+="[^"<>]*")*>/g);
   assert.equal(html.split('<').length - 1, tags.length + html.split('</').length - 1);
   assert.doesNotMatch(html, /<(script|img)|style="[^"]*(url|position)/);
@@ -100,9 +105,11 @@ test('what is deep, long or left open', { skip }, async () => {
   }
 });
 
-test('tables and lists that nest deeper than the core takes lose their shape, and not their text', { skip }, async () => {
-  for (const [open, close] of [['<table><tr><td>a', '</table>'], ['<ul><li>a', '</ul>'], ['<blockquote>a', '</blockquote>'],
-    ['<ul><li>a<blockquote>b<table><tr><td>c', '</table></blockquote></ul>'], ['<ol>', 'a</ol>']]) {
+test('what nests deeper than the core takes loses its shape, and not its text', { skip }, async () => {
+  for (const [open, close] of [
+    ['<table><tr><td>a', '</table>'], ['<ul><li>a', '</ul>'], ['<blockquote>a', '</blockquote>'],
+    ['<ul><li>a<blockquote>b<table><tr><td>c', '</table></blockquote></ul>'], ['<ol>', 'a</ol>'],
+  ]) {
     const count = open.length > 20 ? 60 : 100; // or parse5 has too many levels
     const html = open.repeat(count) + close.repeat(count);
     const slice = await outcome(html);
@@ -128,14 +135,12 @@ test('what is no HTML, no document and no option', async () => {
   let last = deep;
   for (let left = 100_000; left > 0; left -= 1) last = (last.children = [{ type: 'quote' }])[0];
   const text = { type: 'text', text: 'a' };
-  for (const [nodes, code] of [
-    [undefined, 'document'], ['a', 'document'], [[1], 'document'], [[{}], 'document'], [[{ type: 'video' }], 'document'],
-    [[{ type: 'tablerow' }], 'document'], [[{ type: 'list', children: [text] }], 'document'], [[{ type: 'text', text: 1 }], 'document'],
-    [[{ type: 'heading', tag: 'script' }], 'document'], [[{ type: 'text', text: 'a', format: '1' }], 'document'],
-    [[{ type: 'paragraph', children: {} }], 'document'], [[{ type: 'list', start: 1.5 }], 'document'],
-    [[{ type: 'link', url: '/', children: [{ type: 'link', url: '/' }] }], 'document'], [[deep], 'depth'],
-    [[{ type: 'paragraph', direction: '"' }], 'document'], [[{ type: 'paragraph', format: 'x"' }], 'document'],
-  ]) {
-    assert.throws(() => htmlFromDocument({ nodes }), error => error instanceof ContentError && error.code === code, code);
-  }
+  const wrong = [
+    undefined, ['a'], [1], [{}], [{ type: 'video' }], [{ type: 'tablerow' }], [{ type: 'list', children: [text] }],
+    [{ type: 'text', text: 1 }], [{ type: 'heading', tag: 'script' }], [{ type: 'text', text: 'a', format: '1' }],
+    [{ type: 'paragraph', children: {} }], [{ type: 'list', start: 1.5 }], [{ type: 'paragraph', direction: '"' }],
+    [{ type: 'paragraph', format: 'x"' }], [{ type: 'link', url: '/', children: [{ type: 'link', url: '/' }] }],
+  ];
+  for (const nodes of wrong) assert.throws(() => htmlFromDocument({ nodes }), isContent('document'));
+  assert.throws(() => htmlFromDocument({ nodes: [deep] }), isContent('depth'));
 });

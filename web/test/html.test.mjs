@@ -5,7 +5,8 @@ import { readFileSync, readdirSync } from 'node:fs';
 import { join } from 'node:path';
 import test from 'node:test';
 import { htmlFromDocument, sliceFromHtml } from '../html.js';
-import { again, chance, pasted, short, skip, someDocument, someHtml, textOf } from './html.mjs';
+import { chance, someDocument, someHtml } from './html-chance.mjs';
+import { again, pasted, short, skip, textOf } from './html.mjs';
 import { top, web } from './helper.mjs';
 
 /** The text that parse5 finds, without white space, and with what stands for images. */
@@ -19,7 +20,7 @@ function textByParser(html) {
   return read(parse5.parse(html, { scriptingEnabled: false })).replace(/\s+/g, '');
 }
 
-test('HTML by chance is pasted with all of its text, and is the same when it is written and read again', { skip }, async () => {
+test('HTML by chance is pasted with all of its text, and reads the same once it was written', { skip }, async () => {
   for (let seed = 0; seed < 1000; seed += 1) {
     const html = someHtml(chance(seed));
     const slice = await sliceFromHtml(html);
