@@ -28,7 +28,7 @@ const leaves = [
 ];
 
 /** HTML by chance, with tags that are left open or stand where they may not. */
-export function someHtml(random, depth = 4 + random(3)) {
+export function someHtml(random, depth = 3 + random(3)) {
   let html = '';
   for (let left = random(4) + (depth > 3 ? 1 : 0); left > 0; left -= 1) {
     const kind = random(10);

@@ -56,7 +56,7 @@ test('documents of the examples', { skip }, async () => {
 });
 
 test('documents by chance are the same once they were written and read', { skip }, async () => {
-  for (let seed = 0; seed < 200; seed += 1) {
+  for (let seed = 0; seed < 100; seed += 1) {
     const document = someDocument(chance(seed));
     const html = htmlFromDocument(document);
     const slice = await sliceFromHtml(html);
