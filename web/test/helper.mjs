@@ -43,10 +43,8 @@ export function newFolder() {
 /** A copy of what the package has, with the module that is tested, or another: the program in it. */
 export function packedProgram(bytes = moduleBytes) {
   const folder = newFolder();
-  const { files } = JSON.parse(readFileSync(join(web, 'package.json'), 'utf8'));
-  for (const file of ['package.json', ...files]) {
-    if (file !== 'lexical.wasm') cpSync(join(web, file), join(folder, file));
-  }
+  const sources = readdirSync(web).filter(file => /\.(m?js|json)$/.test(file));
+  for (const file of sources) cpSync(join(web, file), join(folder, file));
   writeFileSync(join(folder, 'lexical.wasm'), bytes);
   return join(folder, 'cli.mjs');
 }
