@@ -1,0 +1,79 @@
+// The parser that Markdown is read with: markdown-it, looked up when it is needed.
+import { ContentError } from './content-error.js';
+
+/**
+ * As much of a token of markdown-it as is read.
+ * @typedef {{
+ *   type: string, tag: string, nesting: number, level: number, content: string, info: string,
+ *   children: Token[] | null, map: [number, number] | null, meta: any, attrGet(name: string): string | null,
+ * }} Token
+ */
+
+const LONGEST = 16_777_216; // characters of a text: no document of a longer one fits in a line
+const BLOCKS = 150; // levels that quotes, lists and items nest: two for each list
+const BRACKETS = 20; // levels of brackets in a text that are looked into, which may be those of a link
+/** @type {Promise<{ parser: any, leavesBars: boolean }> | null} */
+let found = null;
+
+/**
+ * The tokens of a text and its lines, and whether the parser leaves `\|` as it is in code in a cell, as old ones do.
+ * @param {string} text
+ * @returns {Promise<{ tokens: Token[], lines: string[], leavesBars: boolean }>}
+ */
+export async function tokensOf(text) {
+  if (text.length > LONGEST) throw new ContentError('size', `the text has more than ${LONGEST} characters`);
+  found ??= newParser();
+  const { parser, leavesBars } = await found.catch(cause => {
+    found = null;
+    throw new ContentError('parser', 'there is no markdown-it to read Markdown with', cause);
+  });
+  /** @type {Token[]} */
+  const tokens = parser.parse(text, {});
+  if (tokens.some(token => token.nesting === 1 && token.level >= BLOCKS - 1)) {
+    throw new ContentError('depth', `quotes and lists nest deeper than ${BLOCKS} levels`);
+  }
+  return { tokens, lines: text.split(/\r\n?|\n/), leavesBars };
+}
+
+async function newParser() {
+  const MarkdownIt = await constructorOf();
+  const parser = new MarkdownIt('commonmark', { html: false });
+  parser.enable(['table', 'strikethrough']);
+  parser.validateLink = () => true; // addresses are looked at where links are made
+  parser.normalizeLink = parser.normalizeLinkText = (/** @type {string} */ address) => address;
+  parser.core.ruler.before('block', 'nest_blocks', () => { parser.options.maxNesting = BLOCKS; });
+  parser.core.ruler.before('inline', 'checks', (/** @type {{ tokens: Token[] }} */ state) => {
+    parser.options.maxNesting = BRACKETS;
+    findChecks(state.tokens);
+  });
+  return { parser, leavesBars: parser.render('|`\\|`|\n|-|').includes('\\|') };
+}
+
+/** Of a package in a page, or beside this one in node, or where NODE_PATH says. */
+async function constructorOf() {
+  try {
+    // @ts-ignore: it need not be there
+    return (await import('markdown-it')).default;
+  } catch (error) {
+    if (typeof process === 'undefined' || !process.versions?.node) throw error;
+    const name = 'node:module'; // so that bundlers for a page don't look for it
+    const { createRequire } = await import(name);
+    const made = createRequire(import.meta.url)('markdown-it');
+    return made.default ?? made;
+  }
+}
+
+/**
+ * Takes `[ ]` and `[x]` at the start of items, and tells them in the meta of the item's token.
+ * @param {Token[]} tokens
+ */
+function findChecks(tokens) {
+  for (let index = 0; index + 2 < tokens.length; index += 1) {
+    const inline = tokens[index + 2];
+    if (tokens[index].type !== 'list_item_open' || tokens[index + 1].type !== 'paragraph_open') continue;
+    const check = /^\[([ xX])\](?:[ \t\n]+|$)/.exec(inline.content);
+    if (check === null) continue;
+    tokens[index].meta = { checked: check[1] !== ' ' };
+    inline.content = inline.content.slice(check[0].length);
+  }
+}
