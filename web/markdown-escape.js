@@ -5,7 +5,7 @@
 const white = /^[\t\n\f\r \u00a0\u1680\u2000-\u200a\u202f\u205f\u3000]$/;
 const word = /^[\p{L}\p{N}\p{M}]$/u;
 const mark = /^[!-/:-@[-`{-~\p{P}]$/u;
-const special = /[\\`*_[\]<~&!\n\r\f]/g;
+const special = /[\\*_[\]<~&!\n\r\f]/g;
 
 /**
  * White space to any parser.
@@ -36,11 +36,11 @@ export function numbered(character, lose) {
     || (code & 0xfffe) === 0xfffe || (code >= 0xfdd0 && code <= 0xfdef);
   if (!isNone) return `&#${code};`;
   lose('control characters beside formats or ends of lines');
-  return '\ufffd';
+  return '&#65533;';
 }
 
 /**
- * A text without what begins or ends something inline. Starts and ends of lines are seen to by `wholeLine`.
+ * A text without what begins or ends something inline, but for backticks. Starts and ends of lines are seen to by `wholeLine`.
  * @param {string} text
  * @param {boolean} beforeLink whether a link follows, which `!` would make an image
  */
@@ -66,7 +66,7 @@ export function codeSpan(code, lose) {
   const lengths = new Set((text.match(/`+/g) ?? []).map(run => run.length));
   let length = 1;
   while (lengths.has(length)) length += 1;
-  const pad = /^`|`$|^ .+ $/.test(text) ? ' ' : '';
+  const pad = /^`|`$|^ [^]+ $/.test(text) ? ' ' : '';
   return `${'`'.repeat(length)}${pad}${text}${pad}${'`'.repeat(length)}`;
 }
 

@@ -42,8 +42,7 @@ function runsOf(tokens, making, isCell) {
     } else if (token.type === 'softbreak') add(' ');
     else if (token.type === 'hardbreak') runs.push({ kind: 'break', format });
     else if (token.type === 'code_inline') {
-      const text = isCell && making.leavesBars ? token.content.replaceAll('\\|', '|') : token.content;
-      runs.push({ kind: 'code', text, format });
+      runs.push({ kind: 'code', text: codeOf(token, isCell && making.leavesBars), format });
     } else if (token.type === 'image') runs.push(...imageOf(token, format, making));
     else if (token.type === 'link_open') {
       const link = linkOf(token, making);
@@ -59,6 +58,16 @@ function runsOf(tokens, making, isCell) {
     } else if (token.content !== '') add(token.content);
   }
   return outer;
+}
+
+/**
+ * The text of code. Around one with U+2028 or U+2029 markdown-it leaves the two spaces that belong to the backticks.
+ * @param {Token} token
+ * @param {boolean} leavesBars
+ */
+function codeOf({ content }, leavesBars) {
+  const text = /[\u2028\u2029]/.test(content) ? content.replace(/^ ([^]+) $/, '$1') : content;
+  return leavesBars ? text.replaceAll('\\|', '|') : text;
 }
 
 /**

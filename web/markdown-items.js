@@ -16,6 +16,17 @@ const LISTS = 22; // lists in lists, in a quote and with a link in the last: dee
  * @returns {DocumentNode[]}
  */
 export function itemsOf(blocks, checked, level, making) {
+  return madeItems(blocks.flatMap(block => withoutQuote(block, making)), checked, level, making);
+}
+
+/**
+ * @param {readonly DocumentNode[]} blocks
+ * @param {boolean | undefined} checked
+ * @param {number} level
+ * @param {Making} making
+ * @returns {DocumentNode[]}
+ */
+function madeItems(blocks, checked, level, making) {
   const members = { value: 1, ...(checked === undefined ? {} : { checked }) };
   const first = blocks.findIndex(block => block.type === 'list');
   if (first >= 0 && level >= LISTS) return flattened(blocks, members, making);
@@ -69,9 +80,6 @@ function addTo(children, block, making) {
     children.push(block);
   } else if (block.type === 'horizontalrule') {
     making.lose('rules in lists');
-  } else if (block.type === 'quote') {
-    making.lose('quotes in lists');
-    for (const inner of blocksOf(block, making)) addTo(children, inner, making);
   } else if (block.type === 'table') {
     making.lose('tables in lists');
     for (const row of block.children) addLine(children, cellsOf(/** @type {Element} */ (row), making), making);
@@ -109,6 +117,16 @@ function cellsOf(row, making) {
     const { children } = /** @type {Element} */ (paragraph);
     return index === 0 ? children : [...textNodes('\t', 0, making), ...children];
   });
+}
+
+/**
+ * @param {DocumentNode} block
+ * @param {Making} making
+ */
+function withoutQuote(block, making) {
+  if (block.type !== 'quote') return [block];
+  making.lose('quotes in lists');
+  return blocksOf(block, making);
 }
 
 /**

@@ -34,6 +34,7 @@ export function listLines(list, taken, depth, lose) {
     const front = type === 'number' ? `${start + index}${marker} ` : `${marker} `;
     const indent = ' '.repeat(front.length);
     itemLines(item, marker, depth + 1, lose).forEach((line, at) => {
+      if (at === 0 && line === '' && index > 0) lines.push(''); // below a line with `|` a sole `-` would make a table
       if (at === 0) lines.push((front + line).trimEnd());
       else lines.push(line === '' ? '' : indent + line);
     });

@@ -2,7 +2,7 @@
 
 /**
  * A run. White space, breaks and embeds have no formats of their own in Markdown: they have what stands on both sides.
- * @typedef {{ kind: 'text' | 'code', text: string, format: number }} TextRun
+ * @typedef {{ kind: 'text', text: string, format: number } | { kind: 'code', text: string, format: number }} TextRun
  * @typedef {{ kind: 'break', format: number }} BreakRun
  * @typedef {{ kind: 'embed', address: string, format: number }} EmbedRun
  * @typedef {{ kind: 'link', address: string, title: string | null, runs: Run[], format: number }} LinkRun
@@ -20,18 +20,15 @@ export const MARKED = BOLD | ITALIC | STRIKE; // what Markdown has delimiters fo
  */
 export function settled(runs, around = 0) {
   const parted = runs.flatMap(parts);
-  const before = new Array(parted.length);
-  let format = around;
-  parted.forEach((run, index) => {
-    before[index] = format;
-    if (!isNeutral(run)) format = run.format;
-  });
-  format = around;
-  for (let index = parted.length - 1; index >= 0; index -= 1) {
-    const run = parted[index];
-    if (!isNeutral(run)) format = run.format;
-    else if (run.kind === 'text') parted[index] = { ...run, format: run.format & before[index] & format };
-    else parted[index] = { ...run, format: before[index] & format };
+  let before = around;
+  for (let start = 0, end = 0; start < parted.length; start = end + 1) {
+    let shared = before; // by all spaces between two that have formats of their own, and by these
+    for (end = start; end < parted.length && isNeutral(parted[end]); end += 1) {
+      if (parted[end].kind === 'text') shared &= parted[end].format;
+    }
+    const after = end < parted.length ? parted[end].format : around;
+    for (let index = start; index < end; index += 1) parted[index] = withFormat(parted[index], shared & after);
+    before = after;
   }
   return joined(parted);
 }
@@ -42,6 +39,15 @@ const isNeutral = run => run.kind === 'break' || run.kind === 'embed' || (run.ki
 
 /** @param {Run} run */
 const isBare = run => run.kind === 'break' || run.kind === 'embed';
+
+/**
+ * @param {Run} run one without a format of its own
+ * @param {number} format
+ * @returns {Run}
+ */
+function withFormat(run, format) {
+  return run.kind === 'link' ? { ...run, format, runs: settled(run.runs, format) } : { ...run, format };
+}
 
 /**
  * A text parted from the white space at its ends; a link with what all of its texts share.

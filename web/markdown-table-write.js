@@ -2,7 +2,7 @@
 import { ContentError } from './content-error.js';
 import { DEEPEST, childrenOf, isInline, loseLayout, numberOf, runsOf, stringOf } from './markdown-nodes.js';
 import { hasBreaks, settled, withoutBreaks } from './markdown-runs.js';
-import { cellOf } from './markdown-text.js';
+import { lineOf } from './markdown-text.js';
 
 /** @typedef {import('./markdown-nodes.js').Node} Node */
 /** @typedef {import('./markdown-nodes.js').Lose} Lose */
@@ -30,14 +30,14 @@ export function tableLines(table, depth, lose) {
   const head = hasHead ? rows[0].map(cell => cell.text) : [];
   const rest = hasHead ? rows.slice(1) : rows;
   return [
-    lineOf([...head, ...new Array(columns - head.length).fill('')]),
-    lineOf(alignments.map(alignment => dashes[alignment] ?? '---')),
-    ...rest.map(row => lineOf(row.length === 0 ? [''] : row.map(cell => cell.text))),
+    rowOf([...head, ...new Array(columns - head.length).fill('')]),
+    rowOf(alignments.map(alignment => dashes[alignment] ?? '---')),
+    ...rest.map(row => rowOf(row.length === 0 ? [''] : row.map(cell => cell.text))),
   ];
 }
 
 /** @param {readonly string[]} texts */
-const lineOf = texts => `| ${texts.join(' | ')} |`;
+const rowOf = texts => `| ${texts.join(' | ')} |`;
 
 /**
  * The cells of each row, with empty ones where another cell reaches.
@@ -123,8 +123,24 @@ function writtenCell(cell, depth, lose) {
   const alignment = (isPlain && blocks.length === 1 ? stringOf(only, 'format') : '') || own;
   const runs = settled(runsIn(blocks, depth + 3, lose));
   if (hasBreaks(runs)) lose('line breaks in cells');
-  const text = cellOf(settled(withoutBreaks(runs, ' ')), lose);
+  const line = lineOf(settled(withoutOddCode(withoutBreaks(runs, ' '), lose)), lose, '&#96;');
+  const text = line.replaceAll('|', '\\|');
   return { text, header: numberOf(cell, 'headerState'), alignment };
+}
+
+/**
+ * The runs with text for code that has an odd number of backticks, after which old parsers don't see where a cell ends.
+ * @param {readonly Run[]} runs
+ * @param {Lose} lose
+ * @returns {Run[]}
+ */
+function withoutOddCode(runs, lose) {
+  return runs.map(run => {
+    if (run.kind === 'link') return { ...run, runs: withoutOddCode(run.runs, lose) };
+    if (run.kind !== 'code' || (run.text.match(/`/g)?.length ?? 0) % 2 === 0) return run;
+    lose('code with backticks in tables');
+    return { ...run, kind: 'text' };
+  });
 }
 
 /**

@@ -27,21 +27,21 @@ export function linesOf(runs, lose) {
 }
 
 /**
- * The one line of settled runs without breaks, as it stands in a cell of a table.
+ * The one line of settled runs without breaks, as it stands in a heading or a cell, where nothing begins a block.
  * @param {readonly Run[]} runs
  * @param {Lose} lose
+ * @param {string} [tick] how a backtick is written that begins no code
  */
-export function cellOf(runs, lose) {
-  return withEdges(written(runs, 0, lose).join(' '), lose).replaceAll('|', '\\|');
-}
+export const lineOf = (runs, lose, tick) => withEdges(written(runs, 0, lose, tick).join(' '), lose);
 
 /**
  * @param {readonly Run[]} runs
  * @param {number} outer the formats that are open around them
  * @param {Lose} lose
+ * @param {string} [tick]
  */
-function written(runs, outer, lose) {
-  const pieces = piecesOf(runs, outer, lose);
+function written(runs, outer, lose, tick = '\\`') {
+  const pieces = piecesOf(runs, outer, lose, tick);
   chooseMarks(pieces);
   const lines = [''];
   /** @type {string[]} */
@@ -51,7 +51,9 @@ function written(runs, outer, lose) {
       lines[lines.length - 1] = texts.join('');
       texts = [];
       lines.push('');
-    } else if (piece.kind === 'text') texts.push(besides(pieces, index, piece.text, lose));
+    } else if (piece.kind === 'text') {
+      texts.push(besides(pieces, index, piece.text, lose).replaceAll('`', tick));
+    }
     else texts.push('mark' in piece ? piece.mark : piece.text);
   });
   lines[lines.length - 1] = texts.join('');
@@ -63,9 +65,10 @@ function written(runs, outer, lose) {
  * @param {readonly Run[]} runs
  * @param {number} outer
  * @param {Lose} lose
+ * @param {string} tick
  * @returns {Piece[]}
  */
-function piecesOf(runs, outer, lose) {
+function piecesOf(runs, outer, lose, tick) {
   const ends = endsOf(runs);
   /** @type {Piece[]} */
   const pieces = [];
@@ -82,7 +85,7 @@ function piecesOf(runs, outer, lose) {
   };
   runs.forEach((run, index) => {
     change(run.format, index);
-    pieces.push(...pieceOf(run, lose));
+    pieces.push(pieceOf(run, lose, tick));
   });
   while (open.length > 0) close(pieces, /** @type {number} */ (open.pop()));
   return pieces;
@@ -114,16 +117,17 @@ function endsOf(runs) {
 /**
  * @param {Run} run
  * @param {Lose} lose
- * @returns {Piece[]}
+ * @param {string} tick
+ * @returns {Piece}
  */
-function pieceOf(run, lose) {
-  if ('text' in run) {
-    return [run.kind === 'text' ? { kind: 'text', text: run.text } : { kind: 'whole', text: codeSpan(run.text, lose) }];
-  }
-  if (run.kind === 'break') return [{ kind: 'break' }];
-  if (run.kind === 'embed') return [{ kind: 'whole', text: `![]${destination(run.address, null)}` }];
-  const inside = written(run.runs, run.format, lose).map((line, index) => index === 0 ? line : wholeLine(line, lose));
-  return [{ kind: 'whole', text: `[${inside.join('\\\n')}]${destination(run.address, run.title)}`, isLink: true }];
+function pieceOf(run, lose, tick) {
+  if (run.kind === 'text') return { kind: 'text', text: run.text };
+  if (run.kind === 'code') return { kind: 'whole', text: codeSpan(run.text, lose) };
+  if (run.kind === 'break') return { kind: 'break' };
+  if (run.kind === 'embed') return { kind: 'whole', text: `![]${destination(run.address, null)}` };
+  const lines = written(run.runs, run.format, lose, tick);
+  const inside = lines.map((line, index) => index === 0 ? line : wholeLine(line, lose));
+  return { kind: 'whole', text: `[${inside.join('\\\n')}]${destination(run.address, run.title)}`, isLink: true };
 }
 
 /**
@@ -157,8 +161,10 @@ function besides(pieces, index, text, lose) {
   const [before, after] = [pieces[index - 1], pieces[index + 1]];
   const first = String.fromCodePoint(/** @type {number} */ (text.codePointAt(0)));
   const last = /[\ud800-\udbff][\udc00-\udfff]$|[^]$/.exec(text)?.[0] ?? '';
-  const isBefore = before?.kind === 'close' && hides(before, pieces[index - 2], false, first);
-  const isAfter = after?.kind === 'open' && hides(after, pieces[index + 2], true, last);
+  const isBefore = before !== undefined && 'bit' in before
+    && (before.kind === 'open' ? first.trim() === '' : hides(before, pieces, index - 2, first));
+  const isAfter = after !== undefined && 'bit' in after
+    && (after.kind === 'close' ? last.trim() === '' : hides(after, pieces, index + 2, last));
   const isBoth = isBefore && isAfter && text.length === first.length;
   const start = isBefore ? first.length : 0;
   const end = text.length - (isAfter && !isBoth ? last.length : 0);
@@ -170,13 +176,16 @@ function besides(pieces, index, text, lose) {
 /**
  * Whether a delimiter isn't read beside a character outside it.
  * @param {Delimiter} delimiter
- * @param {Piece | undefined} inside
- * @param {boolean} atStart whether the inside's start is at the delimiter
+ * @param {readonly Piece[]} pieces
+ * @param {number} index that of what is inside
  * @param {string} outside
  */
-function hides(delimiter, inside, atStart, outside) {
+function hides(delimiter, pieces, index, outside) {
   if (isWhite(outside) || isMark(outside)) return false;
+  const inside = pieces[index];
   if (delimiter.mark === '_' || inside?.kind !== 'text') return true;
-  const near = atStart ? String.fromCodePoint(inside.text.codePointAt(0) ?? 0) : inside.text.slice(-1);
-  return !isWord(near);
+  const isStart = delimiter.kind === 'open';
+  const near = isStart ? String.fromCodePoint(inside.text.codePointAt(0) ?? 0) : inside.text.slice(-1);
+  const beyond = pieces[isStart ? index + 1 : index - 1]; // beside it a sole character may get a number, which begins with `&`
+  return !isWord(near) || (near === inside.text && beyond?.kind === delimiter.kind);
 }

@@ -4,7 +4,7 @@ import { listLines } from './markdown-list-write.js';
 import { DEEPEST, childrenOf, grouped, loseLayout, runsOf } from './markdown-nodes.js';
 import { hasBreaks, settled, withoutBreaks, withoutLastBreaks } from './markdown-runs.js';
 import { tableLines } from './markdown-table-write.js';
-import { linesOf } from './markdown-text.js';
+import { lineOf, linesOf } from './markdown-text.js';
 
 /** @typedef {import('./markdown-nodes.js').Node} Node */
 /** @typedef {import('./markdown-nodes.js').Lose} Lose */
@@ -135,8 +135,13 @@ function headingLines(node, lose) {
   if (Number.isNaN(level)) throw new ContentError('document', 'a heading has a tag that is none');
   const runs = withoutLastBreaks(settled(runsOf(childrenOf(node), lose)), lose);
   const isBroken = hasBreaks(runs);
-  if (isBroken && level < 3) return [...linesOf(runs, lose), level === 1 ? '===' : '---'];
-  if (isBroken) lose('line breaks in headings below the second level');
-  const [line] = linesOf(settled(withoutBreaks(runs, ' ')), lose);
+  if (isBroken && level === 1) return [...linesOf(runs, lose), '==='];
+  const hasBars = runs.some(run => run.kind === 'code' && run.text.includes('|')); // below one `---` makes a table
+  if (isBroken && level === 2 && !hasBars) return [...linesOf(runs, lose).map(withoutBars), '---'];
+  if (isBroken) lose('line breaks in headings');
+  const line = lineOf(settled(withoutBreaks(runs, ' ')), lose);
   return [`${'#'.repeat(level)} ${line.replace(/#+$/, '\\$&')}`.trimEnd()];
 }
+
+/** @param {string} line */
+const withoutBars = line => line.replaceAll('|', '&#124;');
