@@ -10,6 +10,7 @@ import { ContentError } from './content-error.js';
  */
 
 const LONGEST = 16_777_216; // characters of a text: no document of a longer one fits in a line
+const CELLS = 8_192; // of a table: each is two nodes of a document, which has at most 16,384
 const BLOCKS = 150; // levels that quotes, lists and items nest: two for each list
 const BRACKETS = 20; // levels of brackets in a text that are looked into, which may be those of a link
 /** @type {Promise<{ parser: any, leavesBars: boolean }> | null} */
@@ -39,6 +40,7 @@ async function newParser() {
   const MarkdownIt = await constructorOf();
   const parser = new MarkdownIt('commonmark', { html: false });
   parser.enable(['table', 'strikethrough']);
+  boundTables(parser.block.ruler);
   parser.validateLink = () => true; // addresses are looked at where links are made
   parser.normalizeLink = parser.normalizeLinkText = (/** @type {string} */ address) => address;
   parser.core.ruler.before('block', 'nest_blocks', () => { parser.options.maxNesting = BLOCKS; });
@@ -61,6 +63,26 @@ async function constructorOf() {
     const made = createRequire(import.meta.url)('markdown-it');
     return made.default ?? made;
   }
+}
+
+/**
+ * Stops a table with more cells than a document may have: its short rows are filled up, so few lines can make millions.
+ * @param {any} ruler
+ */
+function boundTables(ruler) {
+  const { fn, alt } = ruler.__rules__.find((/** @type {{ name: string }} */ { name }) => name === 'table');
+  ruler.at('table', (/** @type {any} */ state, /** @type {unknown[]} */ ...rest) => {
+    let cells = 0;
+    state.push = (/** @type {string} */ type, /** @type {unknown[]} */ ...more) => {
+      if (type === 'td_open' && (cells += 1) > CELLS) throw new ContentError('size', `a table has more than ${CELLS} cells`);
+      return Object.getPrototypeOf(state).push.call(state, type, ...more);
+    };
+    try {
+      return fn(state, ...rest);
+    } finally {
+      delete state.push;
+    }
+  }, { alt: alt.slice() });
 }
 
 /**
