@@ -12,6 +12,7 @@ import { ContentError } from './content-error.js';
 const LONGEST = 16_777_216; // characters of a text: no document of a longer one fits in a line
 const CELLS = 8_192; // of a table: each is two nodes of a document, which has at most 16,384
 const BLOCKS = 150; // levels that quotes, lists and items nest: two for each list
+const PARENTHESES = 32; // in an address without `<` and `>`, one in another
 const BRACKETS = 20; // levels of brackets in a text that are looked into, which may be those of a link
 /** @type {Promise<{ parser: any, leavesBars: boolean }> | null} */
 let found = null;
@@ -41,6 +42,7 @@ async function newParser() {
   const parser = new MarkdownIt('commonmark', { html: false });
   parser.enable(['table', 'strikethrough']);
   boundTables(parser.block.ruler);
+  boundLinks(parser.helpers);
   parser.validateLink = () => true; // addresses are looked at where links are made
   parser.normalizeLink = parser.normalizeLinkText = (/** @type {string} */ address) => address;
   parser.core.ruler.before('block', 'nest_blocks', () => { parser.options.maxNesting = BLOCKS; });
@@ -83,6 +85,33 @@ function boundTables(ruler) {
       delete state.push;
     }
   }, { alt: alt.slice() });
+}
+
+/**
+ * Stops looking for the end of an address or a title where there is none: old parsers go to the end of the text each time.
+ * @param {any} helpers
+ */
+function boundLinks(helpers) {
+  const { parseLinkDestination, parseLinkTitle } = helpers;
+  const none = { ok: false, pos: 0, lines: 0, str: '' };
+  helpers.parseLinkDestination = (/** @type {string} */ text, /** @type {number} */ at, /** @type {number} */ end) => {
+    const isQuoted = text[at] === '<';
+    for (let level = 0, next = isQuoted ? at + 1 : at; next < end; next += 1) {
+      const character = text[next];
+      if (character === '\\') next += 1;
+      else if (isQuoted ? character === '>' : character <= ' ') break;
+      else if (isQuoted ? character === '<' : character === '(' && (level += 1) > PARENTHESES) return none;
+      else if (character === ')') level -= 1;
+    }
+    return parseLinkDestination(text, at, end);
+  };
+  helpers.parseLinkTitle = (/** @type {string} */ text, /** @type {number} */ at, /** @type {number} */ end) => {
+    for (let next = at + 1; text[at] === '(' && next < end && text[next] !== ')'; next += 1) {
+      if (text[next] === '\\') next += 1;
+      else if (text[next] === '(') return none;
+    }
+    return parseLinkTitle(text, at, end);
+  };
 }
 
 /**
