@@ -40,7 +40,7 @@ export function numbered(character, lose) {
 }
 
 /**
- * A text without what begins or ends something inline, but for backticks. Starts and ends of lines are seen to by `wholeLine`.
+ * A text without what begins or ends something inline, but for backticks. `wholeLine` sees to the ends of lines.
  * @param {string} text
  * @param {boolean} beforeLink whether a link follows, which `!` would make an image
  */

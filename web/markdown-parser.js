@@ -76,7 +76,8 @@ function boundTables(ruler) {
   ruler.at('table', (/** @type {any} */ state, /** @type {unknown[]} */ ...rest) => {
     let cells = 0;
     state.push = (/** @type {string} */ type, /** @type {unknown[]} */ ...more) => {
-      if (type === 'td_open' && (cells += 1) > CELLS) throw new ContentError('size', `a table has more than ${CELLS} cells`);
+      if (type === 'td_open') cells += 1;
+      if (cells > CELLS) throw new ContentError('size', `a table has more than ${CELLS} cells`);
       return Object.getPrototypeOf(state).push.call(state, type, ...more);
     };
     try {
@@ -88,7 +89,7 @@ function boundTables(ruler) {
 }
 
 /**
- * Stops looking for the end of an address or a title where there is none: old parsers go to the end of the text each time.
+ * Stops looking for the end of an address or a title where there is none: old parsers go to the end of the text.
  * @param {any} helpers
  */
 function boundLinks(helpers) {

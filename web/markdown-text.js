@@ -186,6 +186,6 @@ function hides(delimiter, pieces, index, outside) {
   if (delimiter.mark === '_' || inside?.kind !== 'text') return true;
   const isStart = delimiter.kind === 'open';
   const near = isStart ? String.fromCodePoint(inside.text.codePointAt(0) ?? 0) : inside.text.slice(-1);
-  const beyond = pieces[isStart ? index + 1 : index - 1]; // beside it a sole character may get a number, which begins with `&`
+  const beyond = pieces[isStart ? index + 1 : index - 1]; // beside it a sole character may get a number, with `&`
   return !isWord(near) || (near === inside.text && beyond?.kind === delimiter.kind);
 }
