@@ -42,6 +42,7 @@ async function newParser() {
   const parser = new MarkdownIt('commonmark', { html: false });
   parser.enable(['table', 'strikethrough']);
   boundTables(parser.block.ruler);
+  boundBrackets(parser.inline.ruler);
   boundLinks(parser.helpers);
   parser.validateLink = () => true; // addresses are looked at where links are made
   parser.normalizeLink = parser.normalizeLinkText = (/** @type {string} */ address) => address;
@@ -72,7 +73,7 @@ async function constructorOf() {
  * @param {any} ruler
  */
 function boundTables(ruler) {
-  const { fn, alt } = ruler.__rules__.find((/** @type {{ name: string }} */ { name }) => name === 'table');
+  const { fn, alt } = ruleOf(ruler, 'table');
   ruler.at('table', (/** @type {any} */ state, /** @type {unknown[]} */ ...rest) => {
     let cells = 0;
     state.push = (/** @type {string} */ type, /** @type {unknown[]} */ ...more) => {
@@ -86,6 +87,41 @@ function boundTables(ruler) {
       delete state.push;
     }
   }, { alt: alt.slice() });
+}
+
+/**
+ * A rule of the parser, and the names of the rules that it may end.
+ * @param {any} ruler
+ * @param {string} name
+ * @returns {{ fn: (state: any, ...rest: unknown[]) => boolean, alt: string[] }}
+ */
+function ruleOf(ruler, name) {
+  return ruler.__rules__.find((/** @type {{ name: string }} */ rule) => rule.name === name);
+}
+
+/**
+ * Tries no address in `<` and `>` and no link or image where its end is missing: old parsers look for it anew, up to
+ * the end of the text, at each `<` and `[`.
+ * @param {any} ruler
+ */
+function boundBrackets(ruler) {
+  const autolink = ruleOf(ruler, 'autolink').fn;
+  ruler.at('autolink', (/** @type {any} */ state, /** @type {unknown[]} */ ...rest) => {
+    if (state.src[state.pos] !== '<') return false;
+    const end = /[<>\0-\x20]/g; // what an address doesn't have
+    end.lastIndex = state.pos + 1;
+    return end.exec(state.src)?.[0] === '>' && autolink(state, ...rest);
+  });
+  for (const name of ['link', 'image']) {
+    const { fn } = ruleOf(ruler, name);
+    /** @type {WeakMap<object, number>} */
+    const lastEnds = new WeakMap(); // where the last `]` of a text is
+    ruler.at(name, (/** @type {any} */ state, /** @type {unknown[]} */ ...rest) => {
+      const last = lastEnds.get(state) ?? state.src.lastIndexOf(']');
+      lastEnds.set(state, last);
+      return last > state.pos && fn(state, ...rest);
+    });
+  }
 }
 
 /**
