@@ -10,6 +10,8 @@ import { ContentError } from './content-error.js';
  */
 
 const LONGEST = 16_777_216; // characters of a text: no document of a longer one fits in a line
+const LINES = 131_072; // that aren't blank: a document of so many has no room for what they make
+const PIECES = 262_144; // of inline content: texts, breaks, and markers that may be those of a format
 const CELLS = 8_192; // of a table: each is two nodes of a document, which has at most 16,384
 const BLOCKS = 150; // levels that quotes, lists and items nest: two for each list
 const PARENTHESES = 32; // in an address without `<` and `>`, one in another
@@ -24,17 +26,21 @@ let found = null;
  */
 export async function tokensOf(text) {
   if (text.length > LONGEST) throw new ContentError('size', `the text has more than ${LONGEST} characters`);
+  const lines = text.split(/\r\n?|\n/);
+  if (lines.length > LINES && lines.filter(line => /\S/.test(line)).length > LINES) {
+    throw new ContentError('size', `the text has more than ${LINES} lines that aren't blank`);
+  }
   found ??= newParser();
   const { parser, leavesBars } = await found.catch(cause => {
     found = null;
     throw new ContentError('parser', 'there is no markdown-it to read Markdown with', cause);
   });
   /** @type {Token[]} */
-  const tokens = parser.parse(text, {});
+  const tokens = parser.parse(text, { pieces: 0 });
   if (tokens.some(token => token.nesting === 1 && token.level >= BLOCKS - 1)) {
     throw new ContentError('depth', `quotes and lists nest deeper than ${BLOCKS} levels`);
   }
-  return { tokens, lines: text.split(/\r\n?|\n/), leavesBars };
+  return { tokens, lines, leavesBars };
 }
 
 async function newParser() {
@@ -42,6 +48,7 @@ async function newParser() {
   const parser = new MarkdownIt('commonmark', { html: false });
   parser.enable(['table', 'strikethrough']);
   boundTables(parser.block.ruler);
+  boundPieces(parser.inline);
   boundBrackets(parser.inline.ruler);
   boundLinks(parser.helpers);
   parser.validateLink = () => true; // addresses are looked at where links are made
@@ -97,6 +104,21 @@ function boundTables(ruler) {
  */
 function ruleOf(ruler, name) {
   return ruler.__rules__.find((/** @type {{ name: string }} */ rule) => rule.name === name);
+}
+
+/**
+ * Stops a text with more inline content than a document has room for: each marker is a token until it is known to be text.
+ * @param {any} inline
+ */
+function boundPieces(inline) {
+  inline.State = class extends inline.State {
+    /** @param {unknown[]} words */
+    push(...words) {
+      this.env.pieces = (this.env.pieces ?? 0) + 1;
+      if (this.env.pieces > PIECES) throw new ContentError('size', `the text has more than ${PIECES} inline pieces`);
+      return super.push(...words);
+    }
+  };
 }
 
 /**

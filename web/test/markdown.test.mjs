@@ -10,6 +10,9 @@ import { texts } from './markdown-examples.mjs';
 import { asLoaded, chance, goAround, letters, madeText } from './markdown.mjs';
 
 const hasParser = await documentFromMarkdown('').then(() => true, () => false);
+const TEXTS = 400, DOCUMENTS = 80; // made ones: for a larger run, such as 2,000 and 300, only these change
+const MEGABYTE = 1_000_000;
+const SOON = 2000; // milliseconds of the processor: the clock also runs for what else a machine does
 const skip = hasParser ? false : 'there is no markdown-it: NODE_PATH may say where it is';
 const editor = (await newCore()).open();
 
@@ -110,7 +113,7 @@ test('texts for the rules of CommonMark go around', { skip }, async () => {
 });
 
 test('made texts go around', { skip }, async () => {
-  for (let seed = 1; seed <= 2000; seed += 1) await goAround(editor, madeText(chance(seed * 7919)));
+  for (let seed = 1; seed <= TEXTS; seed += 1) await goAround(editor, madeText(chance(seed * 7919)));
 });
 
 /** Writes a document and reads it: nothing of its texts is lost, and what is read goes around. */
@@ -123,7 +126,7 @@ async function keepsTexts(value) {
 test('texts of documents are kept', { skip }, async () => {
   const folder = join(top, 'examples', 'documents');
   for (const file of readdirSync(folder)) await keepsTexts(asLoaded(editor, JSON.parse(readFileSync(join(folder, file), 'utf8'))));
-  for (let seed = 1; seed <= 300; seed += 1) await keepsTexts(asLoaded(editor, madeDocument(chance(seed * 104_729))));
+  for (let seed = 1; seed <= DOCUMENTS; seed += 1) await keepsTexts(asLoaded(editor, madeDocument(chance(seed * 104_729))));
 });
 
 test('a slice is written as its nodes are', () => {
@@ -142,16 +145,30 @@ test('addresses that run something are dropped', { skip }, async () => {
   assert.deepEqual(markdownOf(paragraph(link)), { markdown: 'b\n', lost: ['links with unsafe addresses'] });
 });
 
-test('huge and deep texts are read soon, or refused', { skip }, async () => {
-  const million = 1_000_000;
-  for (const piece of ['[', '*', '**a ', '`', '<', '![', '~~', '&', '_a', '\\', '[a](', '[a](<', '[a](b (', '*_']) {
-    const { document: made } = await documentFromMarkdown(piece.repeat(100_000 / piece.length));
-    assert.ok(made.root.children.length > 0, piece);
+/** Milliseconds of the processor that were used since a usage. */
+function usedSince(usage) {
+  const { user, system } = process.cpuUsage(usage);
+  return (user + system) / 1000;
+}
+
+test('huge texts of one piece are read soon, or refused', { skip }, async () => {
+  const pieces = ['[', '*', '_', '`', '<', '>', '!', '~', '&', '\\', '#', '|', '-', '![', '[]', '[*', '*_', '_a', '<a', '[\n', '*\n', '1.',
+    '- ', '> ', '**a ', '[a](', '[a](<', '[a](b (', '[a]: ', 'a\n\n'];
+  for (const piece of pieces) {
+    const usage = process.cpuUsage();
+    const code = await codeOf(() => documentFromMarkdown(piece.repeat(MEGABYTE / piece.length)));
+    assert.ok(code === null || code === 'size' || code === 'depth', `${piece} ${code}`);
+    assert.ok(usedSince(usage) < SOON, `${JSON.stringify(piece)} took ${usedSince(usage)} ms`);
   }
-  assert.equal(await codeOf(() => documentFromMarkdown('>'.repeat(million))), 'depth');
+});
+
+test('deep texts are flattened, or refused', { skip }, async () => {
+  assert.equal(await codeOf(() => documentFromMarkdown('>'.repeat(MEGABYTE))), 'depth');
   assert.equal(await codeOf(() => documentFromMarkdown('- '.repeat(1000) + 'a')), 'depth');
   assert.equal(await codeOf(() => documentFromMarkdown('x'.repeat(1_048_577))), 'size');
   assert.equal(await codeOf(() => documentFromMarkdown('a\n\n'.repeat(16_384))), 'size');
+  assert.equal(await codeOf(() => documentFromMarkdown('a\n'.repeat(131_073))), 'size');
+  assert.equal(await codeOf(() => documentFromMarkdown('*'.repeat(262_146) + ' a')), 'size');
   const { lost } = await goAround(editor, '> ' + '- '.repeat(60) + 'a');
   assert.deepEqual(lost, ['levels of lists below 22']);
 });
@@ -175,8 +192,8 @@ test('what is no document is refused, and mistakes are errors', async () => {
 
 test('a large document is written soon', { skip }, async () => {
   const children = Array.from({ length: 4000 }, (_, at) => paragraph(text(`a${at} `), text('b', 1), text(' c', 2)));
-  const started = performance.now();
+  const usage = process.cpuUsage();
   const { markdown } = markdownFromDocument(document(...children));
-  assert.ok(performance.now() - started < 5000); // well under a second on a machine that does nothing else
+  assert.ok(usedSince(usage) < SOON); // well under a second on a machine that does nothing else
   assert.ok(markdown.length > 4000 * 10);
 });
