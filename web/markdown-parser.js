@@ -128,9 +128,9 @@ function boundPieces(inline) {
  */
 function boundBrackets(ruler) {
   const autolink = ruleOf(ruler, 'autolink').fn;
+  const end = /[<>\0-\x20]/g; // what an address doesn't have
   ruler.at('autolink', (/** @type {any} */ state, /** @type {unknown[]} */ ...rest) => {
     if (state.src[state.pos] !== '<') return false;
-    const end = /[<>\0-\x20]/g; // what an address doesn't have
     end.lastIndex = state.pos + 1;
     return end.exec(state.src)?.[0] === '>' && autolink(state, ...rest);
   });
@@ -156,11 +156,11 @@ function boundLinks(helpers) {
   helpers.parseLinkDestination = (/** @type {string} */ text, /** @type {number} */ at, /** @type {number} */ end) => {
     const isQuoted = text[at] === '<';
     for (let level = 0, next = isQuoted ? at + 1 : at; next < end; next += 1) {
-      const character = text[next];
-      if (character === '\\') next += 1;
-      else if (isQuoted ? character === '>' : character <= ' ') break;
-      else if (isQuoted ? character === '<' : character === '(' && (level += 1) > PARENTHESES) return none;
-      else if (character === ')') level -= 1;
+      const code = text.charCodeAt(next);
+      if (code === 0x5c) next += 1; // a backslash
+      else if (isQuoted ? code === 0x3e : code <= 0x20) break;
+      else if (isQuoted ? code === 0x3c : code === 0x28 && (level += 1) > PARENTHESES) return none;
+      else if (code === 0x29) level -= 1;
     }
     return parseLinkDestination(text, at, end);
   };
