@@ -107,7 +107,8 @@ function ruleOf(ruler, name) {
 }
 
 /**
- * Stops a text with more inline content than a document has room for: each marker is a token until it is known to be text.
+ * Stops a text with more inline content than a document has room for: each marker is a token until it is known to
+ * be text.
  * @param {any} inline
  */
 function boundPieces(inline) {
