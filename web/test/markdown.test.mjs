@@ -10,7 +10,7 @@ import { texts } from './markdown-examples.mjs';
 import { asLoaded, chance, goAround, letters, madeText } from './markdown.mjs';
 
 const hasParser = await documentFromMarkdown('').then(() => true, () => false);
-const TEXTS = 400, DOCUMENTS = 80; // made ones: for a larger run, such as 2,000 and 300, only these change
+const TEXTS = 300, DOCUMENTS = 60; // made ones: for a larger run, such as 2,000 and 300, only these change
 const MEGABYTE = 1_000_000;
 const SOON = 2000; // milliseconds of the processor: the clock also runs for what else a machine does
 const skip = hasParser ? false : 'there is no markdown-it: NODE_PATH may say where it is';
@@ -156,7 +156,7 @@ test('huge texts of one piece are read soon, or refused', { skip }, async () => 
   const long = ['![', '[]', '[*', '*_', '[\n', '*\n', '1.', '- ', '**a ', '[a](', '[a](<', '[a](b (', '[a]: ', 'a\n\n'];
   for (const piece of [...short, ...long]) {
     const usage = process.cpuUsage();
-    const length = piece.length > 1 ? MEGABYTE / 5 : MEGABYTE; // so that all take seconds, not minutes
+    const length = piece.length > 1 ? MEGABYTE / 10 : MEGABYTE; // so that all take seconds, not minutes
     const code = await codeOf(() => documentFromMarkdown(piece.repeat(length / piece.length)));
     assert.ok(code === null || code === 'size' || code === 'depth', `${piece} ${code}`);
     assert.ok(usedSince(usage) < SOON, `${JSON.stringify(piece)} took ${usedSince(usage)} ms`);
