@@ -5,7 +5,7 @@ import { ContentError } from '../content-error.js';
 import { htmlFromDocument, sliceFromHtml } from '../html.js';
 import { again, pasted, short, skip, textOf } from './html.mjs';
 
-const LONGEST = 4000; // milliseconds of this process, however busy the machine is
+const LONGEST = 15_000; // milliseconds of this process, however busy the machine is
 
 const isContent = code => error => error instanceof ContentError && error.code === code;
 

@@ -12,7 +12,7 @@ import { asLoaded, chance, goAround, letters, madeText } from './markdown.mjs';
 const hasParser = await documentFromMarkdown('').then(() => true, () => false);
 const TEXTS = 300, DOCUMENTS = 60; // made ones: for a larger run, such as 2,000 and 300, only these change
 const MEGABYTE = 1_000_000;
-const SOON = 2000; // milliseconds of the processor: the clock also runs for what else a machine does
+const SOON = 10_000; // milliseconds of the processor: many times what an idle machine takes
 const skip = hasParser ? false : 'there is no markdown-it: NODE_PATH may say where it is';
 const editor = (await newCore()).open();
 

@@ -117,7 +117,7 @@ test('replies tell by their members what they are', { skip }, () => {
   assert.deepEqual(compilerSays(join(web, 'test', 'uses.ts')), []);
 });
 
-const modules = 'lexical.js cli.mjs hosts.js dom.js safe.js selection.js session.js schema.js html.js'.split(' ');
+const modules = 'lexical.js cli.mjs hosts.js dom.js safe.js selection.js session.js schema.js html.js markdown.js'.split(' ');
 
 test('the package has the types that it tells', { skip }, () => {
   const files = [join(web, 'test', 'node.d.ts'), ...modules.map(file => join(web, file))];
