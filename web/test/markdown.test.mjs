@@ -10,7 +10,7 @@ import { texts } from './markdown-examples.mjs';
 import { asLoaded, chance, goAround, letters, madeText } from './markdown.mjs';
 
 const hasParser = await documentFromMarkdown('').then(() => true, () => false);
-const TEXTS = 300, DOCUMENTS = 60; // made ones: for a larger run, such as 2,000 and 300, only these change
+const TEXTS = 2000, DOCUMENTS = 300; // made ones
 const MEGABYTE = 1_000_000;
 const SOON = 10_000; // milliseconds of the processor: many times what an idle machine takes
 const skip = hasParser ? false : 'there is no markdown-it: NODE_PATH may say where it is';
