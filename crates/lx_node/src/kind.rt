@@ -31,6 +31,24 @@ pub enum Kind {
 /// A list of kinds.
 pub type Kinds = Sequence<Kind>;
 
+impl Kinds {
+    ghost use Rattle.std.specs.Prelude.{◌≡◌, length, min, slice_get};
+
+    /// How many kinds there are: from 0 to 4,294,967,295, which also stands for any number above.
+    pub fn len(&self) -> u32
+        ensures { result ≡ min (length self.now) 4294967295 }
+    {
+        u32::try_from(self.items().len()).unwrap_or(u32::MAX)
+    }
+
+    /// The kind at a place, which counts from 0. None where the list has no such place.
+    pub fn at(&self, place: u32) -> Option<Kind>
+        ensures { result ≡ slice_get self.now place }
+    {
+        self.items().get(place as usize).copied()
+    }
+}
+
 impl Kind {
     ghost use Rattle.std.specs.Prelude.{◌≡◌};
     ghost use Rattle.lx_node.specs.Kinds.{type_name as name_of_type};

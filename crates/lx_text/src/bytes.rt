@@ -25,24 +25,6 @@ pub fn piece_at(text: &Txt, from: u32, to: u32) -> Result<(usize, usize), Cause>
     }
 }
 
-/// A copy of the text with `new` in the place of the piece between two offsets. They count as those of `slice`, and it is
-/// refused as `slice` is. `Memory` says that none was left for the copy.
-#[tactic(auto, unfolding(crate::specs::Texts::spliced_text))]
-pub fn splice(alloc: Global, text: &Txt, from: u32, to: u32, new: &str) -> Result<Txt, Fault>
-    ensures changed { IfOk result (λ whole. whole ≡ spliced_text from to (chars new.now) text.now) }
-    ensures allowed { IfOk result (λ _. slice_fault text.now from to ≡ None) }
-    ensures refused { IfErr result (TellsFirst (slice_fault text.now from to)) }
-{
-    match piece_at(text, from, to) {
-        Ok((front, piece)) => {
-            let mut whole = text.copy(alloc)?;
-            whole.splice(front, piece, new)?;
-            Ok(whole)
-        }
-        Err(cause) => Err(Fault::Cause(cause)),
-    }
-}
-
 /// How many bytes a text has.
 fn byte_length(text: &str) -> usize
     ensures { result ≡ length (encode_utf8_all (chars text.now)) }

@@ -9,8 +9,8 @@ mod laws;
 mod offsets;
 mod pieces;
 
-pub use bytes::{piece_at, splice};
+pub use bytes::piece_at;
 pub use clusters::{cluster_after, cluster_before, word_after, word_before};
 pub use laws::texts_are_told;
 pub use offsets::{has_offset, rest_from, within};
-pub use pieces::{length, length_of, slice};
+pub use pieces::{length, length_of, slice, splice};

@@ -1,11 +1,11 @@
-ghost use Rattle.std.specs.Prelude.{◌≡◌, None, IfOk, IfErr, chars, min};
+ghost use Rattle.std.specs.Prelude.{◌≡◌, ◌++◌, None, IfOk, IfErr, chars, min};
 ghost use Rattle.lx_node.specs.declared.cause.Cause.TheVariants.{BadPlace};
 ghost use Rattle.lx_node.specs.declared.cause.Fault.TheVariants as fault;
 ghost use Rattle.lx_node.specs.Strings.{capped};
-ghost use Rattle.lx_text.specs.Texts.{text_length, length_told, slice_of, slice_fault, TellsFirst};
+ghost use Rattle.lx_text.specs.Texts.{text_length, length_told, slice_of, slice_fault, spliced_text, TellsFirst};
 
 use crate::offsets::{pieces, within};
-use lx_node::{Cause, Fault, Txt};
+use lx_node::{Cause, Fault, NoMemory, Txt};
 use std::alloc::Global;
 
 /// How many code units a text has. From 4,294,967,295 on it stands still.
@@ -54,6 +54,30 @@ pub fn slice(alloc: Global, text: &str, from: u32, to: u32) -> Result<Txt, Fault
         Ok((_, piece, _)) => Ok(Txt::new(alloc, piece)?),
         Err(offset) => Err(bad_place(offset)),
     }
+}
+
+/// The text with `new` in the place of the piece between two offsets. They count as those of `slice`, and it is refused as
+/// `slice` is. `Memory` says that none was left for the new text.
+#[tactic(auto, unfolding(crate::specs::Texts::spliced_text))]
+pub fn splice(alloc: Global, text: &str, from: u32, to: u32, new: &str) -> Result<Txt, Fault>
+    ensures changed { IfOk result (λ whole. whole ≡ spliced_text from to (chars new.now) (chars text.now)) }
+    ensures allowed { IfOk result (λ _. slice_fault (chars text.now) from to ≡ None) }
+    ensures refused { IfErr result (TellsFirst (slice_fault (chars text.now) from to)) }
+{
+    match pieces(text, from, to) {
+        Ok((before, _, behind)) => Ok(joined(alloc, before, new, behind)?),
+        Err(offset) => Err(bad_place(offset)),
+    }
+}
+
+/// Three texts as one.
+fn joined(alloc: Global, before: &str, new: &str, behind: &str) -> Result<Txt, NoMemory>
+    ensures { IfOk result (λ whole. whole ≡ chars before.now ++ chars new.now ++ chars behind.now) }
+{
+    let mut whole = String::from_str(alloc, before)?;
+    whole.push_str(new)?;
+    whole.push_str(behind)?;
+    Ok(Txt::of(whole))
 }
 
 pub(crate) fn bad_place(offset: u32) -> Fault

@@ -175,10 +175,9 @@ fn a_copy_prints_as_what_it_was_copied_from(rt: HostRuntime) -> Result<(), Fail>
 }
 
 /// How many kinds a list has, and two of them by place.
-fn read_by_place(alloc: Global) -> Result<(usize, Option<Kind>, Option<Kind>), Fail> {
+fn read_by_place(alloc: Global) -> Result<(u32, Option<Kind>, Option<Kind>), Fail> {
     let kinds = Kinds::of([Kind::Tab, Kind::Break].to_vec(alloc)?);
-    let items = kinds.items();
-    Ok((items.len(), items.get(1).copied(), items.get(2).copied()))
+    Ok((kinds.len(), kinds.at(1), kinds.at(2)))
 }
 
 fn back_in_a_vector(alloc: Global) -> Result<Vec<Kind>, Fail> {

@@ -55,12 +55,6 @@ fn pieces_stand_between_offsets(rt: HostRuntime) -> Result<(), Fail> {
     Ok(())
 }
 
-/// A text with a piece in the place of what stood between two offsets.
-fn spliced(alloc: Global, text: &str, from: u32, to: u32, new: &str) -> Result<Txt, Fault> {
-    let text = Txt::new(alloc, text)?;
-    splice(alloc, &text, from, to, new)
-}
-
 /// Texts that aren't ASCII alone, and one that is, where an offset is its byte.
 #[test]
 fn splices_put_one_piece_for_another(rt: HostRuntime) -> Result<(), Fail> {
@@ -77,7 +71,7 @@ fn splices_put_one_piece_for_another(rt: HostRuntime) -> Result<(), Fail> {
         ("a word", 2, 6, "", "a "),
         ("a word", 0, 6, "é", "é"),
     ] {
-        let whole = spliced(rt.alloc(), text, *from, *to, new)?;
+        let whole = splice(rt.alloc(), text, *from, *to, new)?;
         assert_eq!(rt; whole.as_str(), *wanted, "{from}..{to}");
     }
     Ok(())
