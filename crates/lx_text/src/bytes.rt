@@ -2,11 +2,10 @@
 
 ghost use Rattle.std.specs.Prelude.{◌≡◌, None, Some, IfOk, IfErr, length, chars, encode_utf8_all};
 ghost use Rattle.lx_node.specs.Cuts.{Cuts};
-ghost use Rattle.lx_text.specs.Texts.{front_of, rest_of, slice_of, slice_fault, spliced_text, TellsFirst};
+ghost use Rattle.lx_text.specs.Texts.{front_of, rest_of, slice_of, slice_fault};
 
 use crate::offsets::pieces_of;
-use lx_node::{Cause, Fault, Txt};
-use std::alloc::Global;
+use lx_node::{Cause, Txt};
 
 /// Where the piece between two offsets is in a kept text: how many bytes are before it, and how many are in it. The
 /// offsets count as those of `slice`, and it is refused for the cause for which `slice` is. At the end of the text, where
