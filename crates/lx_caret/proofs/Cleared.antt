@@ -26,7 +26,7 @@ use Rattle.lx_forest.proofs.Lookups.{is_among-children_of}
 use Rattle.lx_forest.proofs.Up.{attached_above}
 use Rattle.lx_forest.proofs.Walks.{is_attached-up, tree_distinct}
 use Rattle.lx_forest.proofs.Within.{alone-drop_detached, is_within-up, is_within-parent, is_within-trans, is_within-with_fields}
-use Rattle.lx_draft.specs.Working.{Working}
+use Rattle.lx_draft.specs.Working.{Working, TextsAreShort}
 use Rattle.lx_draft.specs.Covering.{IsReady, KindsStay}
 use Rattle.lx_draft.specs.Selecting.{lies_in, is_counted_in, length_told}
 use Rattle.lx_draft.specs.Faults.{after, over_limits, splice_fault}
@@ -38,7 +38,7 @@ use Rattle.lx_blocks.specs.declared.ranges.Ranged.{Ranged}
 use Rattle.lx_blocks.specs.Blocks.{same_node, block_of, frame_of, leading}
 use Rattle.lx_blocks.specs.Places.{from_child, behind_place, nodes_behind, until, covered, stands_below, outermost, comes_first}
 use Rattle.lx_blocks.specs.Ranges.{lies, is_fit, range_in, range_of, is_collapsed, start_of, end_of, caret_at, normal_at}
-use Rattle.lx_caret.specs.Lying.{EachPoint, IsLying, TextsAreShort, LeavesLying}
+use Rattle.lx_caret.specs.Lying.{EachPoint, IsLying, LeavesLying}
 use Rattle.lx_caret.specs.Removing.{cut_step, start_part, start_cut, end_cut, removed_below, removed_empty, are_apart, merge_blocks, merge_step, remove_between, removed_in, remove_text_step}
 use Rattle.lx_caret.proofs.Apart.{behind_apart}
 use Rattle.lx_caret.proofs.Lies.{both}

@@ -27,8 +27,8 @@ use Rattle.lx_forest.proofs.Edits.{is_some-spot}
 use Rattle.lx_forest.proofs.Held.{IsHeld-with_new, IsHeld-with_fields, IsHeld-put_in}
 use Rattle.lx_forest.proofs.Lookups.{label_of-put_in}
 use Rattle.lx_forest.proofs.Within.{is_within-with_fields, is_attached-with_new, is_attached-put_in}
-use Rattle.lx_links.specs.Faults.{unknown, bound_to, wrong_fields, set_fault}
-use Rattle.lx_draft.specs.Working.{Working}
+use Rattle.lx_links.specs.Faults.{unknown, wrong_fields, set_fault}
+use Rattle.lx_draft.specs.Working.{Working, TextsAreShort}
 use Rattle.lx_draft.specs.Covering.{IsReady, KindsStay}
 use Rattle.lx_draft.specs.Selecting.{text_of, lies_in, length_told}
 use Rattle.lx_draft.specs.Faults.{answer, after, over_counts, over_limits, put_fault, beyond, text_in, text_fields, piece_fault, label_fault, splice_fault}
@@ -38,9 +38,10 @@ use Rattle.lx_draft.proofs.CoveredSteps.{covered-new, covered-set, covered-splic
 use Rattle.lx_draft.proofs.Put.{both_none, can_put, none_of, put_fits}
 use Rattle.lx_edit.specs.Edits.{pointed}
 use Rattle.lx_blocks.specs.Ranges.{lies}
-use Rattle.lx_caret.specs.Lying.{EachPoint, IsLying, TextsAreShort}
+use Rattle.lx_caret.specs.Lying.{EachPoint, IsLying}
 use Rattle.lx_caret.proofs.Lies.{both, text_at, lies_new, lies_spliced, lies_set, lies_put}
-use Rattle.lx_caret.proofs.Short.{u32-tells, written-allowed, fields-short, splice-short, same-short, made-short, written-short}
+use Rattle.lx_draft.proofs.Short.{fields-short, splice-short, same-short}
+use Rattle.lx_caret.proofs.Short.{u32-tells, written-allowed, made-short, written-short}
 
 -- ---- points one by one
 
@@ -290,7 +291,7 @@ stays_set k u w v fit e =
       fit = record {
         ready = all.ready;
         held = IsHeld-with_fields may_hold w.forest fit.ready.in_order fit.held k x;
-        short = written-short k x (characters_of x) (set_points k x) w (fields-short w.written x) fit.short;
+        short = written-short k x (characters_of x) (set_points k x) w (fields-short (w.written + characters_of x) x (omega arith)) fit.short;
         lying = each_moved (λ p. lies w.forest p ≡ true) (λ p. lies (with_fields k x w.forest) p ≡ true) (set_moves k u.text) w.selection (λ p so.
             let parts = both (is_attached w.forest p.key) (lies_in w.forest p) so in
             ap₂ ◌&&◌ (ap (is_attached (with_fields k x w.forest)) (key_of_set k u.text p) ∙ is_within-with_fields k x w.forest 0 p.key ∙ parts.0)

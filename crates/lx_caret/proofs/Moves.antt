@@ -35,7 +35,7 @@ use Rattle.lx_caret.specs.Lying.{EachPoint}
 use Rattle.lx_caret.specs.Deleting.{moved_in}
 use Rattle.lx_caret.proofs.Lies.{both, lies_taken, lies_put, attached_moved, size_grown}
 use Rattle.lx_caret.proofs.Fit.{each_moved, after_tells, Fit, Stays, Staying, stays_self, stays_then, stays_ok, stays_after, stays_put, puts, key_of_put}
-use Rattle.lx_caret.proofs.Short.{same-short}
+use Rattle.lx_draft.proofs.Short.{same-short}
 
 -- ---- where a put node is
 

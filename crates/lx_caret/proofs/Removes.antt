@@ -34,12 +34,13 @@ use Rattle.lx_draft.proofs.CoveredSteps.{covered-take}
 use Rattle.lx_draft.proofs.Put.{both_none}
 use Rattle.lx_edit.specs.Edits.{start_in, end_in, beside, place_for, text_point, element_point, sent_from, sent_away, goes_too, may_not_be_left, removed, remove_step}
 use Rattle.lx_blocks.specs.Ranges.{lies}
-use Rattle.lx_caret.specs.Lying.{EachPoint, IsLying, AreShort}
+use Rattle.lx_caret.specs.Lying.{EachPoint, IsLying}
+use Rattle.lx_draft.specs.Sizes.{AreShort}
 use Rattle.lx_caret.proofs.Lies.{both, full, least, start_in as start_of_text, end_in as end_of_text, index_within, lies_taken, attached_taken}
 use Rattle.lx_caret.proofs.Fit.{each_moved, each_still, each_both, each_all, after_tells, Fit}
 use Rattle.lx_caret.proofs.Moves.{stands, taken_below, not_root, key_of_take}
 use Rattle.lx_caret.proofs.Parents.{parents_are}
-use Rattle.lx_caret.proofs.Short.{same-short}
+use Rattle.lx_draft.proofs.Short.{same-short}
 
 -- ---- nodes that points avoid
 

@@ -22,7 +22,7 @@ use Rattle.lx_forest.proofs.Held.{IsHeld-with_new, IsHeld-with_fields, IsHeld-pu
 use Rattle.lx_forest.proofs.Lookups.{label_of-with_new, label_of-put_in}
 use Rattle.lx_forest.proofs.Walks.{is_attached-up}
 use Rattle.lx_forest.proofs.Within.{is_within-self, is_within-with_fields, is_attached-with_new, is_attached-put_in}
-use Rattle.lx_draft.specs.Working.{Working}
+use Rattle.lx_draft.specs.Working.{Working, TextsAreShort}
 use Rattle.lx_draft.specs.Covering.{IsReady, KindsStay}
 use Rattle.lx_draft.specs.Selecting.{lies_in, is_counted_in, text_of, length_of, length_told}
 use Rattle.lx_draft.specs.Faults.{answer, after, over_counts, over_limits, put_fault, splice_fault}
@@ -35,11 +35,12 @@ use Rattle.lx_edit.specs.Conditions.{length_at, length_in, split_fault}
 use Rattle.lx_edit.specs.Edits.{pointed}
 use Rattle.lx_edit.specs.Texts.{tail_in, tail_of, tail_made, cut_in_two, cut_at, split_step}
 use Rattle.lx_blocks.specs.Ranges.{lies}
-use Rattle.lx_caret.specs.Lying.{EachPoint, TextsAreShort}
+use Rattle.lx_caret.specs.Lying.{EachPoint}
 use Rattle.lx_caret.proofs.Offsets.{tail_place}
 use Rattle.lx_caret.proofs.Lies.{both, spot_point, IsText, text_at, no_element, is_place_in, place_in, place_small, point_in, lies_new, lies_spliced, lies_put}
 use Rattle.lx_caret.proofs.Fit.{each_moved, after_tells, Fit, Stays, Staying, stays_self, stays_ok, stays_after, stays_allowed, spliced, spliced_few, splice_written, key_of_splice, puts, key_of_put, attached_put}
-use Rattle.lx_caret.proofs.Short.{same-short, made-short}
+use Rattle.lx_draft.proofs.Short.{same-short}
+use Rattle.lx_caret.proofs.Short.{made-short}
 
 -- in the tree, or on the new node that comes beside one in the tree
 abbrev IsNear : Forest → ℕ → ℕ → ℕ → Type 0

@@ -1,6 +1,5 @@
 //! The caret commands. Each that isn't refused leaves a selection that lies in the root's tree: each point of a range is on
-//! the root or a node below it, at a place of its text or between its children. That is claimed of a draft whose texts are short
-//! (`TextsAreShort`), as an update of a committed state begins with them.
+//! the root or a node below it, at a place of its text or between its children.
 
 ghost use Rattle.std.specs.Prelude.{◌≡◌, true, OnOk, IfOk, IfSome, chars};
 ghost use Rattle.lx_node.specs.Kinds.{is_item};
@@ -9,7 +8,7 @@ ghost use Rattle.lx_blocks.specs.Blocks.{is_at};
 ghost use Rattle.lx_caret.specs.Deleting.{delete_character_step, delete_word_step};
 ghost use Rattle.lx_caret.specs.Formatting.{format_text_step};
 ghost use Rattle.lx_caret.specs.Inserting.{insert_text_step, insert_line_break_step, insert_tab_step};
-ghost use Rattle.lx_caret.specs.Lying.{IsLying, TextsAreShort};
+ghost use Rattle.lx_caret.specs.Lying.{IsLying};
 ghost use Rattle.lx_caret.specs.Paragraphs.{insert_paragraph_step};
 ghost use Rattle.lx_caret.specs.Removing.{remove_text_step};
 ghost use Rattle.lx_caret.specs.SelectAll.{select_all_step};
@@ -35,7 +34,7 @@ use std::alloc::Global;
 /// `TooLarge` as the edits of a draft are.
 pub fn insert_text(alloc: Global, draft: &mut Draft, text: &str) -> Result<(), Fault>
     ensures does { Does (insert_text_step (chars text.now) draft.old) draft.new result }
-    ensures lying { OnOk result (TextsAreShort draft.old → IsLying draft.new) }
+    ensures lying { OnOk result (IsLying draft.new) }
 {
     ready(draft)?;
     put_text(alloc, draft, text)
@@ -53,7 +52,7 @@ pub fn insert_text(alloc: Global, draft: &mut Draft, text: &str) -> Result<(), F
 /// and in one table cell or in none; and with `StepLimit` as the edits of a draft are. `Memory` says that none was left.
 pub fn remove_text(alloc: Global, draft: &mut Draft) -> Result<(), Fault>
     ensures does { Does (remove_text_step draft.old) draft.new result }
-    ensures lying { OnOk result (TextsAreShort draft.old → IsLying draft.new) }
+    ensures lying { OnOk result (IsLying draft.new) }
 {
     ready(draft)?;
     remove_selected(alloc, draft)
@@ -85,7 +84,7 @@ pub fn remove_text(alloc: Global, draft: &mut Draft) -> Result<(), Fault>
 pub fn insert_paragraph(alloc: Global, draft: &mut Draft) -> Result<Option<Key>, Fault>
     ensures gives { Gives (insert_paragraph_step draft.old) (λ item. record { draft = draft.new; item = item }) draft.new result }
     ensures item { IfOk result (λ item. IfSome item (λ key. is_at is_item draft.new.forest key ≡ true)) }
-    ensures lying { OnOk result (TextsAreShort draft.old → IsLying draft.new) }
+    ensures lying { OnOk result (IsLying draft.new) }
 {
     ready(draft)?;
     break_block(alloc, draft)
@@ -99,7 +98,7 @@ pub fn insert_paragraph(alloc: Global, draft: &mut Draft) -> Result<Option<Key>,
 /// `TooLarge` as the edits of a draft are.
 pub fn insert_line_break(alloc: Global, draft: &mut Draft) -> Result<(), Fault>
     ensures does { Does (insert_line_break_step draft.old) draft.new result }
-    ensures lying { OnOk result (TextsAreShort draft.old → IsLying draft.new) }
+    ensures lying { OnOk result (IsLying draft.new) }
 {
     ready(draft)?;
     put_line_break(alloc, draft)
@@ -112,7 +111,7 @@ pub fn insert_line_break(alloc: Global, draft: &mut Draft) -> Result<(), Fault>
 /// `TooLarge` as the edits of a draft are.
 pub fn insert_tab(alloc: Global, draft: &mut Draft) -> Result<(), Fault>
     ensures does { Does (insert_tab_step draft.old) draft.new result }
-    ensures lying { OnOk result (TextsAreShort draft.old → IsLying draft.new) }
+    ensures lying { OnOk result (IsLying draft.new) }
 {
     ready(draft)?;
     put_tab(alloc, draft)
@@ -139,7 +138,7 @@ pub fn insert_tab(alloc: Global, draft: &mut Draft) -> Result<(), Fault>
 #[tactic(auto, unfolding(crate::specs::Deleting::delete_character_step))]
 pub fn delete_character(alloc: Global, draft: &mut Draft, back: bool) -> Result<(), Fault>
     ensures does { Does (delete_character_step back draft.old) draft.new result }
-    ensures lying { OnOk result (TextsAreShort draft.old → IsLying draft.new) }
+    ensures lying { OnOk result (IsLying draft.new) }
 {
     ready(draft)?;
     delete(alloc, draft, Stretch::Cluster, back)
@@ -152,7 +151,7 @@ pub fn delete_character(alloc: Global, draft: &mut Draft, back: bool) -> Result<
 #[tactic(auto, unfolding(crate::specs::Deleting::delete_word_step))]
 pub fn delete_word(alloc: Global, draft: &mut Draft, back: bool) -> Result<(), Fault>
     ensures does { Does (delete_word_step back draft.old) draft.new result }
-    ensures lying { OnOk result (TextsAreShort draft.old → IsLying draft.new) }
+    ensures lying { OnOk result (IsLying draft.new) }
 {
     ready(draft)?;
     delete(alloc, draft, Stretch::Word, back)
@@ -173,7 +172,7 @@ pub fn delete_word(alloc: Global, draft: &mut Draft, back: bool) -> Result<(), F
 /// taken, and where what was written would come above 16,777,216 scalar values.
 pub fn format_text(alloc: Global, draft: &mut Draft, bit: u16) -> Result<(), Fault>
     ensures does { Does (format_text_step bit draft.old) draft.new result }
-    ensures lying { OnOk result (TextsAreShort draft.old → IsLying draft.new) }
+    ensures lying { OnOk result (IsLying draft.new) }
 {
     ready(draft)?;
     format_selected(alloc, draft, bit)
@@ -185,7 +184,7 @@ pub fn format_text(alloc: Global, draft: &mut Draft, bit: u16) -> Result<(), Fau
 /// those of `lx_text`, in UTF-16 code units. It is refused as `Draft::select` is.
 pub fn select_all(draft: &mut Draft) -> Result<(), Fault>
     ensures does { Does (select_all_step draft.old) draft.new result }
-    ensures lying { OnOk result (TextsAreShort draft.old → IsLying draft.new) }
+    ensures lying { OnOk result (IsLying draft.new) }
 {
     ready(draft)?;
     select_content(draft)

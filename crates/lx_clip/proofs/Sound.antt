@@ -19,7 +19,7 @@ use Rattle.lx_forest.proofs.Lookups.{label_of-take_out, label_of-put_in}
 use Rattle.lx_forest.proofs.Walks.{is_attached-up}
 use Rattle.lx_forest.proofs.Within.{is_within-trans}
 use Rattle.lx_links.specs.Faults.{detach_fault}
-use Rattle.lx_draft.specs.Working.{Working}
+use Rattle.lx_draft.specs.Working.{Working, TextsAreShort}
 use Rattle.lx_draft.specs.Covering.{IsReady}
 use Rattle.lx_draft.specs.Selecting.{is_counted_in, length_of}
 use Rattle.lx_draft.specs.Faults.{answer, over_counts, put_fault}
@@ -31,7 +31,7 @@ use Rattle.lx_draft.proofs.Put.{both_none}
 use Rattle.lx_edit.specs.Edits.{text_point, element_point, end_in}
 use Rattle.lx_blocks.specs.Ranges.{lies, caret_at}
 use Rattle.lx_caret.specs.Inserting.{place_behind}
-use Rattle.lx_caret.specs.Lying.{TextsAreShort}
+
 use Rattle.lx_caret.proofs.Lies.{full, end_in as end_of_text}
 use Rattle.lx_caret.proofs.Fit.{each_moved, each_all, after_tells, Fit, puts, attached_put}
 use Rattle.lx_caret.proofs.Short.{same-short}

@@ -4,9 +4,9 @@ use Rattle.serde_json.specs.Data.{Data}
 use Rattle.lx_node.specs.Kinds.{may_hold}
 use Rattle.lx_node.specs.declared.cause.Cause.{Cause}
 use Rattle.lx_forest.specs.Lookups.{IsHeld}
-use Rattle.lx_draft.specs.Working.{Working}
+use Rattle.lx_draft.specs.Working.{Working, TextsAreShort}
 use Rattle.lx_draft.specs.Covering.{IsReady, IsCovering}
-use Rattle.lx_caret.specs.Lying.{IsLying, TextsAreShort, LeavesLying}
+use Rattle.lx_caret.specs.Lying.{IsLying, LeavesLying}
 use Rattle.lx_clip.specs.Pasting.{insert_step, paste_step}
 
 -- marks show whatever inserting or pasting a slice changes

@@ -6,7 +6,7 @@ ghost use Rattle.lx_node.specs.declared.cause.Cause.TheVariants.{BadCommand};
 ghost use Rattle.lx_node.specs.declared.cause.Fault.TheVariants as fault;
 ghost use Rattle.lx_draft.specs.Faults.{TellsStep};
 ghost use Rattle.lx_edit.specs.Standing.{Does};
-ghost use Rattle.lx_caret.specs.Lying.{IsLying, TextsAreShort};
+ghost use Rattle.lx_caret.specs.Lying.{IsLying};
 ghost use Rattle.lx_clip.specs.Pasting as pasting;
 ghost use Rattle.lx_clip.specs.Pasting.{insert_step, paste_step};
 
@@ -128,7 +128,7 @@ fn put_slice(alloc: Global, draft: &mut Draft, slice: &Value) -> Result<(), Faul
 /// draft are. The nodes are made before anything is parted.
 pub fn insert(alloc: Global, draft: &mut Draft, slice: &Value) -> Result<(), Fault>
     ensures ok { OnOk result (insert_step (view slice.now) draft.old ≡ Ok draft.new) }
-    ensures lying { OnOk result (TextsAreShort draft.old → IsLying draft.old → IsLying draft.new) }
+    ensures lying { OnOk result (IsLying draft.old → IsLying draft.new) }
     ensures err { IfErr result (λ e. TellsStep e (insert_step (view slice.now) draft.old)) }
 {
     ready(draft)?;
@@ -165,7 +165,7 @@ fn put_text(alloc: Global, draft: &mut Draft, text: &str) -> Result<(), Fault>
 /// is refused as that is, as `insert` is, and with `BadCommand` where the text is no JSON.
 pub fn paste(alloc: Global, draft: &mut Draft, text: &str) -> Result<(), Fault>
     ensures ok { OnOk result (paste_step (chars text.now) draft.old ≡ Ok draft.new) }
-    ensures lying { OnOk result (TextsAreShort draft.old → IsLying draft.new) }
+    ensures lying { OnOk result (IsLying draft.new) }
     ensures err { IfErr result (λ e. TellsStep e (paste_step (chars text.now) draft.old)) }
 {
     ready(draft)?;

@@ -4,7 +4,7 @@ use Rattle.serde_json.specs.Data.{array, Data}
 use Rattle.lx_node.specs.declared.cause.Cause.{Cause}
 use Rattle.lx_select.specs.declared.selection.Selection.{Selection}
 use Rattle.lx_forest.specs.Forest.{Forest}
-use Rattle.lx_draft.specs.Working.{Working}
+use Rattle.lx_draft.specs.Working.{Working, TextsAreShort}
 use Rattle.lx_draft.specs.Covering.{IsReady}
 use Rattle.lx_draft.specs.Faults.{after, over_counts, over_limits, put_fault}
 use Rattle.lx_json.specs.Exporting.{trees_data}
@@ -25,7 +25,7 @@ use Rattle.lx_select.specs.Rules.{put_moves}
 use Rattle.lx_forest.specs.Lookups.{has, key_of, count, alone, trees_of, is_within, ancestors, is_attached, IsForest, IsHeld}
 use Rattle.lx_draft.specs.Steps.{made, new_step, node_placed, put_step}
 use Rattle.lx_draft.proofs.Covered.{answered}
-use Rattle.lx_caret.specs.Lying.{EachPoint, TextsAreShort}
+use Rattle.lx_caret.specs.Lying.{EachPoint}
 use Rattle.lx_caret.proofs.Fit.{each_moved, key_of_put, each_still, after_tells}
 use Rattle.lx_clip.proofs.PathsOfNodes.{IsMaking, nodes_read_path}
 use Rattle.std.proofs.lemmas.Bool.{cases_Bool}

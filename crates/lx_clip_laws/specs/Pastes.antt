@@ -5,11 +5,11 @@ use Rattle.lx_node.specs.declared.cause.Point.{Point}
 use Rattle.lx_select.specs.declared.selection.Selection.{Selection}
 use Rattle.lx_forest.specs.Forest.{Forest}
 use Rattle.lx_forest.specs.Lookups.{has, trees_of, IsHeld}
-use Rattle.lx_draft.specs.Working.{Working}
+use Rattle.lx_draft.specs.Working.{Working, TextsAreShort}
 use Rattle.lx_draft.specs.Covering.{IsReady}
 use Rattle.lx_json.specs.Back.{pieces_of}
 use Rattle.lx_json.specs.Nodes.{Made}
-use Rattle.lx_caret.specs.Lying.{EachPoint, TextsAreShort}
+use Rattle.lx_caret.specs.Lying.{EachPoint}
 use Rattle.lx_caret.specs.Removing.{remove_text_step}
 use Rattle.lx_clip.specs.Slices.{sliced, slice_data}
 use Rattle.lx_clip.specs.Pasting.{nodes_added, block_opened, put_beyond, insert_step, json_of, paste_step}

@@ -7,7 +7,7 @@ use Rattle.lx_forest.specs.Forest.{Forest}
 use Rattle.lx_forest.specs.Lookups.{has, spot, kind_of, parent_of, IsForest}
 use Rattle.lx_forest.specs.Records.{record_at}
 use Rattle.lx_draft.specs.Working.{Working}
-use Rattle.lx_draft.specs.Faults.{answer, after}
+use Rattle.lx_draft.specs.Faults.{answer}
 use Rattle.lx_draft.specs.Marking.{mark_nodes}
 use Rattle.lx_draft.specs.Covering.{IsNotedUp, Covers, KindsStay, AreElements, IsReady, AreNew, AreCovered}
 use Rattle.lx_draft.proofs.Elements.{sorted-nodes, sorted_stays, element_stays}

@@ -1,8 +1,9 @@
 -- What holds of a draft and the keys that it has made or taken out still holds after each edit of its forest.
-use Rattle.std.proofs.Common.{◌≡◌, ◌≢◌, ℕ, ◌+◌, ◌||◌, true, false, eqb, List, Option, None, sym, ap, subst, ◌∙◌, arith}
+use Rattle.std.proofs.Common.{◌≡◌, ◌≢◌, ℕ, ◌+◌, ◌≤◌, ◌||◌, true, false, eqb, List, Option, None, Some, sym, ap, subst, ◌∙◌, arith}
 use Rattle.std.proofs.lemmas.Bool.Decides.{eqb_tells}
 use Rattle.lx_trees.specs.Trees.{nil}
 use Rattle.lx_trees.specs.Siblings.{is_among}
+use Rattle.lx_node.specs.Strings.{characters_of}
 use Rattle.lx_node.specs.declared.fields.Fields.{Fields}
 use Rattle.lx_marks.specs.Marks.{Marked, with_leaf}
 use Rattle.lx_marks.proofs.Names.{is_among-with_name}
@@ -20,6 +21,7 @@ use Rattle.lx_draft.specs.Raised.{IsRaised, IsRaisedBut}
 use Rattle.lx_draft.proofs.Raised.{raised-with_new, raised-with_fields, raised-take_out, raised-put_in}
 use Rattle.std.proofs.Common.{Result, Ok, Err, []}
 use Rattle.std.specs.Prelude.{OnOk, OnErr}
+use Rattle.lx_draft.proofs.Short.{IsShort}
 use Rattle.lx_draft.proofs.Kept.{working_nil, working_take, working_put, working_set, working_new}
 
 -- ---- one key more
@@ -50,21 +52,22 @@ drafted_nil w old new i =
     record { working = working_nil w i.working; moved = moved_nil new; raised = λ q p noted at. absurd (grind (arith, at)); raised_fresh = λ q p noted at. absurd (grind (arith, at)) }
 
 pub drafted_new : (w : Working) (g : Forest) (l : Label) (old new : Marked) → IsForest w.forest → IsDrafted w old.leaves → HasRoom w → l.key ≡ w.next_key
-    → new ≡ with_leaf l.key old → g ≡ with_new l w.forest → IsDrafted (record w { forest = g; next_key = w.next_key + 1 }) new.leaves
-drafted_new w g l old new h i room key noted made =
+    → new ≡ with_leaf l.key old → characters_of l.fields ≤ w.written → g ≡ with_new l w.forest
+    → IsDrafted (record w { forest = g; next_key = w.next_key + 1 }) new.leaves
+drafted_new w g l old new h i room key noted few made =
     let free : has l.key w.forest ≡ false = ap (λ k. has k w.forest) key ∙ i.working.free w.next_key (omega arith) in
     record {
-      working = working_new w g l h i.working room key made;
+      working = working_new w g l h i.working room key few made;
       moved = subst (λ f. AreMoved most_depth f new.leaves) (sym made)
           (moved-with_new most_depth l w.forest new.leaves h free (leaf_noted l.key old new noted) (moved_leaf w.forest l.key old new noted i.moved));
       raised = subst (λ f. IsRaised f w.marks) (sym made) (raised-with_new l w.forest w.marks h free i.raised);
       raised_fresh = subst (λ f. IsRaised f w.fresh) (sym made) (raised-with_new l w.forest w.fresh h free i.raised_fresh);
     }
 
-pub drafted_set : (w : Working) (ks : List ℕ) (k : ℕ) (fields : Fields) → IsForest w.forest → IsDrafted w ks
+pub drafted_set : (w : Working) (ks : List ℕ) (k : ℕ) (fields : Fields) → IsForest w.forest → IsShort w.written (Some fields) → IsDrafted w ks
     → IsDrafted (record w { forest = with_fields k fields w.forest }) ks
-drafted_set w ks k fields h i = record {
-  working = working_set w k fields i.working;
+drafted_set w ks k fields h few i = record {
+  working = working_set w k fields few i.working;
   moved = moved-with_fields most_depth k fields w.forest ks h i.moved;
   raised = raised-with_fields k fields w.forest w.marks i.raised;
   raised_fresh = raised-with_fields k fields w.forest w.fresh i.raised_fresh;
@@ -86,7 +89,7 @@ drafted_take w old new k h none noted i = record {
 
 working_marked : (w : Working) (marks fresh : Marked) → IsWorking w → IsWorking (record w { marks = marks; fresh = fresh })
 working_marked w marks fresh i =
-    record { counted = i.counted; edits = i.edits; written = i.written; first = i.first; next = i.next; free = i.free; few = i.few }
+    record { counted = i.counted; edits = i.edits; written = i.written; first = i.first; next = i.next; free = i.free; few = i.few; short = i.short }
 
 pub drafted_put : (w : Working) (ks : List ℕ) (p : ℕ) (before : Option ℕ) (k : ℕ) (marks fresh : Marked) → IsForest w.forest → CanPut p k w.forest
     → IsRaised (put_in p before k w.forest) marks → IsRaised (put_in p before k w.forest) fresh → IsDrafted w ks
@@ -108,6 +111,10 @@ pub drafted_lost : (w : Working) (old new : List ℕ) (f : Forest) (marks fresh 
 drafted_lost w old new f marks fresh e i =
     subst (λ g. IsDrafted (record w { forest = g; marks = marks; fresh = fresh }) new) (sym e)
     (record { working = working_marked (record w { forest = nil }) marks fresh (working_nil w i.working); moved = moved_nil new; raised = λ q p noted at. absurd (grind (arith, at)); raised_fresh = λ q p noted at. absurd (grind (arith, at)) })
+
+-- after memory ran out
+pub drafted_failed : (w : Working) (old new : List ℕ) (f : Forest) → f ≡ nil → IsDrafted w old → IsDrafted (record w { forest = f }) new
+drafted_failed w old new f e i = subst (λ g. IsDrafted (record w { forest = g }) new) (sym e) (drafted_nil w old new i)
 
 -- after nodes were marked twice, or memory ran out
 pub drafted_both : {E : Type 0} (r : Result Unit E) (w : Working) (ks : List ℕ) (f : Forest) (marks fresh a b : Marked) → OnOk r (f ≡ w.forest)

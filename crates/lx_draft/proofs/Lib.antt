@@ -3,6 +3,7 @@ pub mod Marked
 pub mod TextPlaces
 pub mod Points
 pub mod Measured
+pub mod Short
 pub mod Kept
 pub mod Covered
 pub mod CoveredEdits

@@ -1,5 +1,5 @@
 -- A piece of a text that is replaced where it is.
-use Rattle.std.proofs.Common.{◌≡◌, ◌∙◌, ℕ, List, ◌++◌, Option, None, Some, Result, Ok, Err, option_map, refl, sym, ap, subst, inl, inr, ◌⊎◌}
+use Rattle.std.proofs.Common.{◌≡◌, ◌∙◌, ◌≤◌, ℕ, List, length, ◌++◌, Option, None, Some, Result, Ok, Err, option_map, refl, sym, ap, subst, inl, inr, ◌⊎◌, arith}
 use Rattle.std.specs.Prelude.{not, OnOk, OnErr}
 use Rattle.std.proofs.lemmas.List.{append_cancel_left, append_cancel_right}
 use Rattle.std.proofs.lemmas.Bool.Decides.{Decides-like, same_from_decides}
@@ -12,16 +12,18 @@ use Rattle.lx_node.specs.declared.fields.TextFields.{TextFields}
 use Rattle.lx_node.specs.declared.fields.Fields.{Fields}
 use Rattle.lx_node.specs.declared.fields.Fields.TheVariants as fields
 use Rattle.lx_node.proofs.Same.{same_text-Decides, same_fields-Decides}
-use Rattle.lx_text.specs.Texts.{front_of, rest_of, slice_of, spliced_text}
+use Rattle.lx_text.specs.Texts.{front_of, rest_of, slice_of, spliced_text, text_length}
+use Rattle.lx_text.proofs.Places.{length-append}
 use Rattle.lx_forest.specs.Forest.{Forest, Label}
 use Rattle.lx_forest.specs.Lookups.{label_of, fields_of}
 use Rattle.lx_forest.specs.Edits.{with_fields}
 use Rattle.lx_links.specs.Splices.{MaySplice}
 use Rattle.lx_draft.specs.declared.texts.Piece.{Piece}
-use Rattle.lx_draft.specs.Working.{Working}
+use Rattle.lx_draft.specs.Working.{Working, TextsAreShort}
 use Rattle.lx_draft.specs.Faults.{text_fields, text_in}
-use Rattle.lx_draft.specs.Respelling.{IsPlaced}
-use Rattle.lx_draft.specs.Steps.{differ, with_piece, label_with_piece}
+use Rattle.lx_draft.specs.Respelling.{IsPlaced, IsShortBefore}
+use Rattle.lx_draft.proofs.Short.{IsShort, length-few}
+use Rattle.lx_draft.specs.Steps.{wrote, differ, with_piece, label_with_piece}
 
 -- a label with a text's fields is a text's
 parts_of_text : (k : Kind) (x : Fields) (t : TextFields) → text_fields k x ≡ Some t → (Some k ≡ Some kind.Text) × (Some x ≡ Some (fields.Text t))
@@ -75,6 +77,33 @@ pub replaced_or : {T E : Type 0} (r : Result T E) (k : ℕ) (piece : Piece) (new
     → (g ≡ with_fields k (label_with_piece (label_of f k) piece.from piece.to new) f) ⊎ (g ≡ nil)
 replaced_or (Ok x) k piece new f g h made failed = inl (replaced k piece new f g h made)
 replaced_or (Err e) k piece new f g h made failed = inr failed
+
+-- once a new piece is counted
+pub short_before : (more : ℕ) (new : List ℕ) (w v : Working) → v ≡ wrote more w → length new ≤ more → TextsAreShort w → IsShortBefore new v
+short_before more new w v is few short =
+    subst (IsShortBefore new) (sym is) (record { written = w.written; counted = omega (arith, few); short = short })
+
+-- the text that is left is short, as the new piece is counted
+pub respelled_short : (k : ℕ) (piece : Piece) (new : List ℕ) (w : Working) → IsPlaced k piece w.forest → IsShortBefore new w
+    → IsShort w.written (Some (label_with_piece (label_of w.forest k) piece.from piece.to new))
+unfolding spliced_text
+respelled_short k piece new w h b =
+    let front = front_of piece.from h.text.text in
+    let within = slice_of piece.from piece.to h.text.text in
+    let rest = rest_of piece.to h.text.text in
+    let own = subst (IsShort b.written) ((text_told (label_of w.forest k) h.text h.text_is).1) (b.short.each k) in
+    subst (λ x. IsShort w.written (Some x)) (sym (ap (λ o. with_piece o piece.from piece.to new) h.text_is))
+    (omega (
+      arith,
+      own,
+      ap text_length h.cut.whole,
+      length-append (front ++ within) rest,
+      length-append front within,
+      length-append (front ++ new) rest,
+      length-append front new,
+      length-few new,
+      b.counted,
+    ))
 
 -- ---- whether the text changes
 

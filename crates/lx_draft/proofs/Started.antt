@@ -1,5 +1,5 @@
 -- A new editor's state is one from which an update may start.
-use Rattle.std.proofs.Common.{◌≡◌, ◌<◌, ℕ, sym, subst, arith}
+use Rattle.std.proofs.Common.{◌≡◌, ◌<◌, ◌≤◌, ℕ, refl, sym, subst, arith}
 use Rattle.std.proofs.lemmas.Bool.Decides.{eqb_tells}
 use Rattle.lx_forest.specs.Forest.{Forest, root_alone}
 use Rattle.lx_forest.specs.Lookups.{IsForest}
@@ -10,9 +10,19 @@ use Rattle.std.proofs.Common.{[], ◌≢◌}
 use Rattle.lx_trees.specs.Trees.{nil}
 use Rattle.lx_marks.specs.Marks.{Marked, unmarked}
 use Rattle.lx_links.specs.Stands.{Sound}
-use Rattle.lx_node.specs.Limits.{most_depth}
+use Rattle.lx_node.specs.Limits.{most_depth, most_characters}
+use Rattle.lx_node.specs.Strings.{characters_of, characters_of_element, characters_of_extra}
+use Rattle.lx_draft.specs.Sizes.{tree_characters}
 use Rattle.lx_draft.specs.Working.{MayStart, started}
 use Rattle.lx_draft.specs.Drafted.{IsDrafted}
+use Rattle.lx_draft.proofs.Short.{short-whole}
+
+no_characters : tree_characters root_alone ≡ 0
+unfolding characters_of characters_of_element characters_of_extra
+no_characters = refl
+
+root_characters : tree_characters root_alone ≤ most_characters
+root_characters = omega (arith, no_characters)
 
 pub start_anew : (f : Forest) → f ≡ root_alone → MayStart f 1
 start_anew f e = subst (λ g. MayStart g 1) (sym e) (record {
@@ -21,6 +31,7 @@ start_anew f e = subst (λ g. MayStart g 1) (sym e) (record {
   few = omega arith;
   whole = λ q there. grind (arith, there, eqb_tells 0 q);
   shallow = λ q d at. grind (arith, at, eqb_tells 0 q);
+  characters = root_characters;
 })
 
 -- the root's key is below the next one
@@ -38,6 +49,7 @@ drafted_start f s next_key h m = record {
     next = omega (arith, m.next);
     free = m.free;
     few = omega (arith, m.few);
+    short = short-whole f m.whole m.characters;
   };
   raised = λ q p noted up. absurd (grind (arith, noted));
   raised_fresh = λ q p noted up. absurd (grind (arith, noted));

@@ -19,6 +19,7 @@ use Rattle.lx_forest.proofs.Loose.{moved-drop_detached}
 use Rattle.lx_forest.proofs.Order.{IsForest-drop_detached}
 use Rattle.lx_forest.proofs.Weights.{drop_detached-twice}
 use Rattle.lx_draft.proofs.Raised.{raised-drop_detached}
+use Rattle.lx_draft.proofs.Short.{short-drop_detached}
 use Rattle.lx_draft.proofs.Depths.{whole_of, le-tree_depth}
 use Rattle.lx_node.specs.Limits.{most_depth, most_nodes, most_characters, most_key}
 use Rattle.lx_draft.specs.Working.{Working, IsWorking, MayStart}
@@ -44,6 +45,7 @@ working_swept w h i =
       next = i.next;
       free = λ q above. absent_swept w.forest q (i.free q above);
       few = omega (arith, i.few, total-drop_detached-le w.forest);
+      short = short-drop_detached w.forest w.written h i.short;
     }
 
 pub drafted_swept : (v w : Working) (ks : List ℕ) (f : Forest) → w ≡ v → Sound v.forest → v.forest ≢ nil → IsDrafted w ks → f ≡ drop_detached w.forest
@@ -96,6 +98,7 @@ within_limits f next h free same none =
       shallow =
           λ q d at. omega
           (arith, le-tree_depth f q d at, within Depth most_depth (tree_depth f) (omega arith) (none_first (over Depth most_depth (tree_depth f)) _ none));
+      characters = within Characters most_characters (tree_characters f) (omega arith) (none_first (over Characters most_characters (tree_characters f)) _ long);
     }
 
 -- a draft that nothing keeps from being committed leaves such a forest

@@ -1,19 +1,18 @@
 -- What a draft leaves for a commit, and why it can't be committed.
-use Rattle.std.specs.Prelude.{ℕ, max, sum_by, filter, List, [], ◌∷◌, Option, None, Some, unwrap_or, Result, Ok, ◌≡◌}
+use Rattle.std.specs.Prelude.{ℕ, max, filter, List, [], ◌∷◌, Option, unwrap_or, Result, Ok, ◌≡◌}
 use Rattle.std.specs.Option.{option_or}
 use Rattle.lx_trees.specs.NamedTrees.{total}
-use Rattle.lx_node.specs.Strings.{characters_of}
-use Rattle.lx_node.specs.declared.fields.Fields.{Fields}
 use Rattle.lx_node.specs.declared.cause.Cause.{Cause}
 use Rattle.lx_node.specs.declared.cause.Limit.TheVariants.{Depth, Nodes, Characters, KeyCount}
 use Rattle.lx_select.specs.declared.selection.Selection.{Selection}
 use Rattle.lx_select.specs.declared.selection.Selection.TheVariants as selection
 use Rattle.lx_marks.specs.Marks.{Marked}
 use Rattle.lx_forest.specs.Forest.{Forest}
-use Rattle.lx_forest.specs.Lookups.{has, fields_of, depth, preorder}
+use Rattle.lx_forest.specs.Lookups.{has, depth, preorder}
 use Rattle.lx_forest.specs.Edits.{drop_detached}
 use Rattle.lx_node.specs.Limits.{most_depth, most_nodes, most_characters, most_key}
 use Rattle.lx_draft.specs.Working.{Working}
+pub use Rattle.lx_draft.specs.Sizes.{characters_of_found, characters_at, tree_characters}
 use Rattle.lx_draft.specs.Selecting.{selection_lost}
 use Rattle.lx_draft.specs.Faults.{answer, over}
 
@@ -51,19 +50,6 @@ greatest measure (k ∷ ks) = max (measure k) (greatest measure ks)
 -- the greatest depth in the root's tree
 abbrev pub tree_depth : Forest → ℕ
 tree_depth f = greatest (depth_at f) (preorder f)
-
--- how many scalar values are in all strings of fields, if there are fields
-abbrev pub characters_of_found : Option Fields → ℕ
-characters_of_found None = 0
-characters_of_found (Some fields) = characters_of fields
-
--- how many scalar values are in all strings of a node
-abbrev pub characters_at : Forest → ℕ → ℕ
-characters_at f k = characters_of_found (fields_of f k)
-
--- how many scalar values are in all strings of the root's tree
-abbrev pub tree_characters : Forest → ℕ
-tree_characters f = sum_by (characters_at f) (preorder f)
 
 -- the first of the limits on nodes, on characters and on keys that a state with this next key is beyond
 abbrev pub size_fault : Forest → ℕ → Option Cause

@@ -1,6 +1,7 @@
 pub mod Working
 pub mod Marking
 pub mod Selecting
+pub mod Sizes
 pub mod Faults
 pub mod Steps
 pub mod Beside

@@ -114,6 +114,7 @@ impl Draft {
     fn set_fields(&mut self, key: Key, fields: Fields) -> Result<(), NoMemory>
         requires order { IsForest self.old.forest }
         requires fault { set_fault key fields self.old.forest ≡ None }
+        requires few { characters_of fields ≤ self.old.written }
         ensures set { OnOk result (self.new ≡ record self.old { forest = with_fields key fields self.old.forest }) }
         ensures failed { OnErr result (self.new.forest ≡ nil) }
     {
@@ -131,6 +132,7 @@ impl Draft {
         requires fault { set_fault key fields self.old.forest ≡ None }
         requires counts { self.old.counted < most_counts }
         requires written { self.old.written + more ≤ most_written }
+        requires few { characters_of fields ≤ more }
         ensures ok { OnOk result (self.new ≡ steps.fields_written key fields more (λ s. s) self.old) }
         ensures failed { OnErr result (self.new.forest ≡ nil) }
     {

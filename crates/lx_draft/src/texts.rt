@@ -10,8 +10,9 @@ ghost use Rattle.lx_forest.specs.Edits.{with_fields};
 ghost use Rattle.std.specs.Option.{option_copied};
 ghost use Rattle.lx_draft.specs.Faults as faults;
 ghost use Rattle.lx_draft.specs.Faults.{text_in, splice_fault};
-ghost use Rattle.lx_draft.specs.Respelling.{IsPlaced};
+ghost use Rattle.lx_draft.specs.Respelling.{IsPlaced, IsShortBefore};
 ghost use Rattle.lx_draft.specs.Steps as steps;
+ghost use Rattle.lx_draft.specs.Working.{TextsAreShort};
 
 use crate::draft::Draft;
 use lx_node::{Cause, Fields, Key, Kind, Named, NoMemory, Node, TextFields, Txt};
@@ -112,10 +113,11 @@ impl Draft {
         !text.text.has_piece(piece.front, piece.bytes, new)
     }
 
-    /// Puts another text in the place of the piece, where it is.
+    /// Puts another text in the place of the piece, where it is. The text's characters are counted already.
     fn replace_piece(&mut self, key: Key, piece: Piece, new: &str) -> Result<(), NoMemory>
         requires order { IsForest self.old.forest }
         requires placed { IsPlaced key piece self.old.forest }
+        requires short { IsShortBefore (chars new.now) self.old }
         ensures replaced { OnOk result (self.new ≡ record self.old { forest = with_fields key (steps.label_with_piece (lookups.label_of self.old.forest key) piece.from piece.to (chars new.now)) self.old.forest }) }
         ensures failed { OnErr result (self.new.forest ≡ nil) }
     {
@@ -135,6 +137,8 @@ impl Draft {
         requires placed { IsPlaced key piece self.old.forest }
         requires counts { self.old.counted < most_counts }
         requires written { self.old.written + more ≤ most_written }
+        requires few { length (chars new.now) ≤ more }
+        requires short { TextsAreShort self.old }
         ensures ok { OnOk result (self.new ≡ steps.fields_written key (steps.label_with_piece (lookups.label_of self.old.forest key) piece.from piece.to (chars new.now)) more (λ s. s) self.old) }
         ensures failed { OnErr result (self.new.forest ≡ nil) }
     {

@@ -7,4 +7,4 @@ pub returns-clause-lying : goal.returns-clause-lying
 unfolding delete_character_step
 returns-clause-lying c =
     does_lie _ _ c.delete.result
-    (λ e short. lies-delete_character c.args.back c.args.draft.now c.delete.new.draft c.in_ok-ready.ensures.ready c.ready.ensures.held short e) c.delete.ensures
+    (λ e. lies-delete_character c.args.back c.args.draft.now c.delete.new.draft c.in_ok-ready.ensures.ready c.ready.ensures.held c.ready.ensures.short e) c.delete.ensures

@@ -8,7 +8,7 @@ use Rattle.lx_caret.proofs.commands.insert_paragraph.Goals as goal
 pub returns-clause-lying : goal.returns-clause-lying
 returns-clause-lying c =
     gives_lying _ _ _ c.break_block.result
-    (λ item e short. lies-insert_paragraph c.args.draft.now c.break_block.new.draft c.in_ok-ready.ensures.ready c.ready.ensures.held short (ap draft_left e))
+    (λ item e. lies-insert_paragraph c.args.draft.now c.break_block.new.draft c.in_ok-ready.ensures.ready c.ready.ensures.held c.ready.ensures.short (ap draft_left e))
     c.break_block.ensures
 
 pub returns-clause-item : goal.returns-clause-item

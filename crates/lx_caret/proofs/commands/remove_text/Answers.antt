@@ -5,5 +5,5 @@ use Rattle.lx_caret.proofs.commands.remove_text.Goals as goal
 pub returns-clause-lying : goal.returns-clause-lying
 returns-clause-lying c =
     does_lie _ _ c.remove_selected.result
-    (λ e short. lies-remove_text c.args.draft.now c.remove_selected.new.draft c.in_ok-ready.ensures.ready c.ready.ensures.held short e)
+    (λ e. lies-remove_text c.args.draft.now c.remove_selected.new.draft c.in_ok-ready.ensures.ready c.ready.ensures.held c.ready.ensures.short e)
     c.remove_selected.ensures

@@ -6,5 +6,5 @@ use Rattle.lx_clip.proofs.pasting.insert.Goals as goal
 pub returns-clause-lying : goal.returns-clause-lying
 returns-clause-lying c =
     still_lies c.put_slice.result
-    (λ e short lying. lies-insert (view c.args.slice.now) c.args.draft.now c.put_slice.new.draft c.in_ok-ready.ensures.ready c.ready.ensures.held short lying e)
+    (λ e lying. lies-insert (view c.args.slice.now) c.args.draft.now c.put_slice.new.draft c.in_ok-ready.ensures.ready c.ready.ensures.held c.ready.ensures.short lying e)
     c.put_slice.ensures.ok

@@ -9,7 +9,8 @@ use Rattle.lx_draft.specs.Inside.{working_of}
 use Rattle.lx_draft.specs.Respelling.{IsPlaced}
 use Rattle.lx_draft.specs.Steps.{label_with_piece}
 use Rattle.lx_draft.proofs.Drafted.{drafted_set, drafted_nil}
-use Rattle.lx_draft.proofs.Respelled.{may_splice, replaced_ok, replaced_or}
+use Rattle.lx_draft.specs.Respelling.{IsShortBefore}
+use Rattle.lx_draft.proofs.Respelled.{may_splice, replaced_ok, replaced_or, respelled_short}
 use Rattle.lx_draft.proofs.draft.Draft.replace_piece.Goals as goal
 
 pub splice-requires : goal.splice-requires
@@ -29,7 +30,9 @@ invariant_of-self c =
       | inl made ↦
           subst P (sym made)
           (drafted_set w c.self.inside.loose.leaves c.args.key
-          (label_with_piece (label_of w.forest c.args.key) c.args.piece.from c.args.piece.to (chars c.args.new.now)) order c.self.invariant)
+          (label_with_piece (label_of w.forest c.args.key) c.args.piece.from c.args.piece.to (chars c.args.new.now)) order
+          (respelled_short c.args.key c.args.piece (chars c.args.new.now) w placed
+          (subst (λ (v : Working). IsShortBefore (chars c.args.new.now) v) (sym c.self.view_is) c.requires.short)) c.self.invariant)
       | inr failed ↦ subst P (sym failed) (drafted_nil w c.self.inside.loose.leaves c.self.inside.loose.leaves c.self.invariant)
     ]
 
