@@ -1,5 +1,5 @@
 -- The children of a node before and after, around the run that holds all the marked ones: they are the same.
-use Rattle.std.proofs.Common.{◌≡◌, ◌∙◌, ◌||◌, ℕ, true, false, cond, List, [], ◌∷◌, ◌++◌, map, length, length-append, Option, None, Some, is_none, refl, sym, ap, subst, arith}
+use Rattle.std.proofs.Common.{◌≡◌, ◌∙◌, ◌||◌, ◌&&◌, ℕ, Bool, true, false, cond, List, [], ◌∷◌, ◌++◌, map, length, length-append, Option, None, Some, is_none, refl, sym, ap, subst, arith}
 use Rattle.std.proofs.lemmas.Bool.Decides.{eqb_tells}
 use Rattle.std.proofs.lemmas.Bool.{true_from_ne_false, false≢true}
 use Rattle.lx_trees.specs.Siblings.{is_among, is_named, is_place, NoRepeats, first_of, last_of, next_in, previous_in}
@@ -9,12 +9,12 @@ use Rattle.lx_forest.specs.Forest.{Forest}
 use Rattle.lx_forest.specs.Lookups.{has, parent_of, children_of, first_child}
 use Rattle.lx_forest.proofs.Lookups.{NoRepeats-children_of}
 use Rattle.lx_links.proofs.Placed.{child_named, parent_of-child}
-use Rattle.lx_forest.specs.Covered.{Marking, IsAlike}
+use Rattle.lx_forest.specs.Covered.{Marking, IsAlike, AreCovered}
 use Rattle.lx_reconcile.specs.declared.windows.Window.{Window}
 use Rattle.lx_reconcile.specs.declared.moves.Move.{Move}
 use Rattle.lx_reconcile.specs.Making.{IsBetween}
 use Rattle.lx_reconcile.specs.Walk.{toward, IsWalk, IsPart}
-use Rattle.lx_reconcile.specs.Windows.{IsWindowOfMarks, IsWalkIn, start_of, end_of, between_names}
+use Rattle.lx_reconcile.specs.Windows.{IsWindowOfMarks, IsWalkIn, PlainStay, start_of, end_of, between_names}
 use Rattle.lx_reconcile.proofs.Children.{first_place, child_there}
 use Rattle.lx_reconcile.proofs.Neighbours.{siblings_of}
 use Rattle.lx_reconcile.proofs.Lists.{NoRepeats-right, last_of-among}
@@ -29,7 +29,54 @@ once_left (x ∷ xs) ys once = (not_among x xs ys once.0, once_left xs ys once.1
   not_among : (x : ℕ) (xs ys : List ℕ) → is_among x (xs ++ ys) ≡ false → is_among x xs ≡ false
   not_among x xs ys e = grind (arith, e, is_among-append x xs ys)
 
+-- ---- children without marks
+
+is_own : (k : ℕ) → is_named (Some k) k ≡ true
+is_own k = grind (arith, eqb_tells k k)
+
 module _ (old new : Forest) (mk : Marking) (v : HostTree) (b : IsBetween old new mk v) (k : ℕ) (there : has k new ≡ true) where
+  -- they stay where the marks cover neighbours
+  pub stay_covered : AreCovered old new mk → PlainStay mk.noted (children_of old k) (children_of new k)
+  stay_covered covered = record {
+    among = is_new;
+    previous = λ c among plain.
+        sym (ap (λ xs. previous_in xs c) (siblings_of new k c b.sound (is_new c among plain))) ∙ sym (alike c among plain).previous
+        ∙ ap (λ xs. previous_in xs c) (siblings_of old k c b.was_sound among);
+    next = λ c among plain.
+        sym (ap (λ xs. next_in xs c) (siblings_of new k c b.sound (is_new c among plain))) ∙ sym (alike c among plain).next
+        ∙ ap (λ xs. next_in xs c) (siblings_of old k c b.was_sound among);
+  } where
+    alike : (c : ℕ) → is_among c (children_of old k) ≡ true → mk.noted c ≡ false → IsAlike old new c
+    alike c among plain =
+        let up : parent_of old c ≡ Some k = parent_of-child old c k b.was_sound among in
+        let same : mk.touched c ≡ false = untouched old new mk v b c plain in
+        let still : has c new ≡ true = true_from_ne_false (has c new) (λ gone. false≢true (sym same ∙ covered.gone c k up there gone)) in
+        covered.alike c (child_there old k c b.was_sound among) still same
+
+    is_new : (c : ℕ) → is_among c (children_of old k) ≡ true → mk.noted c ≡ false → is_among c (children_of new k) ≡ true
+    is_new c among plain =
+        child_named new c k b.sound
+        ∙ ap (λ o. is_named o k) (sym (alike c among plain).parent ∙ parent_of-child old c k b.was_sound among)
+        ∙ is_own k
+
+  -- and where their parent is untouched, since its children are the same
+  pub stay_untouched : has k old ≡ true → mk.touched k ≡ false → PlainStay mk.noted (children_of old k) (children_of new k)
+  stay_untouched was plain =
+      let same : children_of old k ≡ children_of new k = (b.covered.alike k was there plain).children in
+      record {
+        among = λ c among _. ap (is_among c) (sym same) ∙ among;
+        previous = λ c among _. ap (λ xs. previous_in xs c) (sym same);
+        next = λ c among _. ap (λ xs. next_in xs c) (sym same);
+      }
+
+  -- so they stay unless all children of the touched are walked over
+  pub stay_either : (whole : Bool) → (whole && mk.touched k) ≡ false → (whole ≡ false → AreCovered old new mk) → has k old ≡ true
+      → PlainStay mk.noted (children_of old k) (children_of new k)
+  stay_either true plain wide was = stay_untouched was plain
+  stay_either false plain wide was = stay_covered (wide refl)
+
+module _ (old new : Forest) (mk : Marking) (v : HostTree) (b : IsBetween old new mk v) (k : ℕ)
+    (stay : PlainStay mk.noted (children_of old k) (children_of new k)) where
   abbrev pub olds : List ℕ
   olds = children_of old k
 
@@ -41,31 +88,6 @@ module _ (old new : Forest) (mk : Marking) (v : HostTree) (b : IsBetween old new
 
   news_once : NoRepeats news
   news_once = NoRepeats-children_of new k b.view.after
-
-  -- a child without a mark
-  record IsTheSame (c : ℕ) : Type 0 where
-    among : is_among c news ≡ true
-    previous : previous_in news c ≡ previous_in olds c
-    next : next_in news c ≡ next_in olds c
-
-  stays : (c : ℕ) → is_among c olds ≡ true → mk.noted c ≡ false → IsTheSame c
-  stays c among plain =
-      let up : parent_of old c ≡ Some k = parent_of-child old c k b.was_sound among in
-      let same : mk.touched c ≡ false = untouched old new mk v b c plain in
-      let still : has c new ≡ true = true_from_ne_false (has c new) (λ gone. false≢true (sym same ∙ b.covered.gone c k up there gone)) in
-      let alike : IsAlike old new c = b.covered.alike c (child_there old k c b.was_sound among) still same in
-      let is_new : is_among c news ≡ true = child_named new c k b.sound ∙ ap (λ o. is_named o k) (sym alike.parent ∙ up) ∙ own k in
-      record {
-        among = is_new;
-        previous =
-            sym (ap (λ xs. previous_in xs c) (siblings_of new k c b.sound is_new)) ∙ sym alike.previous
-            ∙ ap (λ xs. previous_in xs c) (siblings_of old k c b.was_sound among);
-        next = sym (ap (λ xs. next_in xs c) (siblings_of new k c b.sound is_new)) ∙ sym alike.next
-            ∙ ap (λ xs. next_in xs c) (siblings_of old k c b.was_sound among);
-      }
-    where
-      own : (k : ℕ) → is_named (Some k) k ≡ true
-      own k = grind (arith, eqb_tells k k)
 
   -- ---- around a run
 
@@ -86,8 +108,11 @@ module _ (old new : Forest) (mk : Marking) (v : HostTree) (b : IsBetween old new
 
     agree : AgreeAround m.is.front w.keys.items m.is.back news
     agree c e =
-        let s = stays c (among_olds c e) (plain c e) in
-        (s.among, s.previous ∙ ap (λ xs. previous_in xs c) m.is.list, s.next ∙ ap (λ xs. next_in xs c) m.is.list)
+        let among = among_olds c e in (
+          stay.among c among (plain c e),
+          stay.previous c among (plain c e) ∙ ap (λ xs. previous_in xs c) m.is.list,
+          stay.next c among (plain c e) ∙ ap (λ xs. next_in xs c) m.is.list,
+        )
 
     -- it is empty only where there are no children
     full : w.keys.items ≡ [] → (m.is.front ≡ []) × (m.is.back ≡ [])
@@ -134,9 +159,10 @@ module _ (old new : Forest) (mk : Marking) (v : HostTree) (b : IsBetween old new
           let last : last_of m.is.front ≡ Some l.0 = ap last_of e ∙ l.1 in
           let among : is_among l.0 m.is.front ≡ true = last_of-among m.is.front l.0 last in
           let either : (is_among l.0 m.is.front || is_among l.0 m.is.back) ≡ true = ap (λ t. t || is_among l.0 m.is.back) among in
-          let s = stays l.0 (among_olds l.0 either) (plain l.0 either) in
           let next : next_in news l.0 ≡ first_of (w.keys.items ++ m.is.back) =
-          s.next ∙ ap (λ ks. next_in ks l.0) m.is.list ∙ next_in-last l.0 m.is.front (w.keys.items ++ m.is.back) list_once last in
+          stay.next l.0 (among_olds l.0 either) (plain l.0 either)
+          ∙ ap (λ ks. next_in ks l.0) m.is.list
+          ∙ next_in-last l.0 m.is.front (w.keys.items ++ m.is.back) list_once last in
           ap (λ o. is_place o news) (begins_own first l.0 last) ∙ by_keys w.keys.items refl l.0 next e
         where
           by_keys : (ks : List ℕ) → w.keys.items ≡ ks → (l : ℕ) → next_in news l ≡ first_of (w.keys.items ++ m.is.back) → m.is.front ≡ x ∷ xs
@@ -153,8 +179,8 @@ module _ (old new : Forest) (mk : Marking) (v : HostTree) (b : IsBetween old new
     first_same [] is first = absurd (let e = ap first_of is in cc)
     first_same (x ∷ xs) is first =
         let own : is_among x olds ≡ true = first_of-among olds x (ap first_of is) in
-        let s = stays x own (all x own) in
-        ap first_of is ∙ sym (first_shared x [] xs news news_once s.among (s.previous ∙ ap (λ ks. previous_in ks x) is))
+        ap first_of is
+        ∙ sym (first_shared x [] xs news news_once (stay.among x own (all x own)) (stay.previous x own (all x own) ∙ ap (λ ks. previous_in ks x) is))
 
     same : olds ≡ news
-    same = same_names olds news olds_once news_once (first_same olds refl first) (λ q e. sym (stays q e (all q e)).next)
+    same = same_names olds news olds_once news_once (first_same olds refl first) (λ q e. sym (stay.next q e (all q e)))

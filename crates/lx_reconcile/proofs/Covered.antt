@@ -15,7 +15,7 @@ use Rattle.lx_draft.specs.Covering.{Covers}
 use Rattle.lx_forest.specs.Covered.{AreCovered}
 use Rattle.lx_reconcile.specs.Allowing.{marking}
 
-touched_noted : (m : Marked) (q : ℕ) → is_touched m q ≡ true → is_noted m q ≡ true
+pub touched_noted : (m : Marked) (q : ℕ) → is_touched m q ≡ true → is_noted m q ≡ true
 touched_noted m q e = grind (arith, e)
 
 -- the neighbours that a record gives

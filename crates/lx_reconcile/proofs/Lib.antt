@@ -2,6 +2,7 @@ pub mod Along
 pub mod Around
 pub mod Attached
 pub mod Between
+pub mod ByParents
 pub mod Cases
 pub mod Changed
 pub mod Children

@@ -345,3 +345,13 @@ part_of_window noted front old back new ms once next_once w front_plain back_pla
   front_plain = front_plain;
   back_plain = back_plain;
 }
+
+-- all moves of a walk are a part too, with nothing before or after
+pub whole_part : (noted : ℕ → Bool) (olds news : List ℕ) (ms : List Move) → IsWalk olds news ms → IsPart noted olds news ms
+whole_part noted olds news ms w = record {
+  front = [];
+  back = [];
+  walk = subst (IsWalk olds news) (sym (append-nil ms)) w;
+  front_plain = λ k e. absurd (cc);
+  back_plain = λ k e. absurd (cc);
+}

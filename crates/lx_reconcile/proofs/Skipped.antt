@@ -14,7 +14,8 @@ use Rattle.lx_forest.specs.Forest.{Label, Forest}
 use Rattle.lx_forest.specs.Lookups.{has, alone, children_of, trees_of}
 use Rattle.lx_forest.proofs.Walks.{total-alone-lt}
 use Rattle.lx_links.proofs.Placed.{parent_of-child}
-use Rattle.lx_forest.specs.Covered.{Marking, IsAlike}
+use Rattle.lx_forest.specs.Covered.{Marking}
+use Rattle.lx_reconcile.specs.Covering.{IsUnchanged}
 use Rattle.lx_reconcile.specs.Handled.{IsReconciled}
 use Rattle.lx_reconcile.specs.Making.{IsBetween, Reconciles}
 use Rattle.lx_reconcile.proofs.StartEnd.{child_stands}
@@ -33,7 +34,7 @@ trees_same f g (k ∷ ks) same =
 
 module _ (old new : Forest) (mk : Marking) (v : HostTree) (b : IsBetween old new mk v) where
   pub untouched : (k : ℕ) → mk.noted k ≡ false → mk.touched k ≡ false
-  untouched k plain = false_from_ne_true (mk.touched k) (λ marked. false≢true (sym plain ∙ b.covered.noted k marked))
+  untouched k plain = false_from_ne_true (mk.touched k) (λ marked. false≢true (sym plain ∙ b.noted k marked))
 
   was_there : (k : ℕ) → has k new ≡ true → mk.noted k ≡ false → has k old ≡ true
   was_there k there plain = true_from_ne_false (has k old) (λ out. false≢true (sym (untouched k plain) ∙ b.covered.made k out there))
@@ -46,7 +47,7 @@ module _ (old new : Forest) (mk : Marking) (v : HostTree) (b : IsBetween old new
   same_below zero k small there plain = absurd (omega (arith, small))
   same_below (suc fuel) k small there plain =
       let was = was_there k there plain in
-      let alike : IsAlike old new k = b.covered.alike k was there (untouched k plain) in
+      let alike : IsUnchanged old new k = b.covered.alike k was there (untouched k plain) in
       let x = stands_there old k b.view.before was in
       let y = stands_there new k b.view.after there in
       let kinds : Some y.label.kind ≡ Some x.label.kind =

@@ -17,7 +17,8 @@ use Rattle.lx_forest.specs.Lookups.{has, label_of, parent_of, children_of, last_
 use Rattle.lx_forest.specs.Views.{kind_at}
 use Rattle.lx_links.specs.Stands.{Sound}
 use Rattle.lx_links.proofs.Placed.{parent_of-child}
-use Rattle.lx_forest.specs.Covered.{Marking, AreCovered}
+use Rattle.lx_forest.specs.Covered.{Marking}
+use Rattle.lx_reconcile.specs.Covering.{AreCoveredByParents}
 use Rattle.lx_reconcile.specs.Allowed.{KeepsOrder, hosts_of, new_host, of_touched, of_child, IsDue}
 use Rattle.lx_reconcile.specs.Created.{create_op, creation_of}
 use Rattle.lx_reconcile.specs.Changing.{IsWriteAt, is_text, is_attr, is_break}
@@ -74,11 +75,13 @@ module _ (old new : Forest) (mk : Marking) (v : HostTree) where
 
   -- ---- what is marked
 
-  pub children_touched : (k : ℕ) → AreCovered old new mk → has k old ≡ true → has k new ≡ true → (children_of old k ≡ children_of new k → ⊥)
+  pub children_touched : (k : ℕ) → AreCoveredByParents old new mk → has k old ≡ true → has k new ≡ true
+      → (children_of old k ≡ children_of new k → ⊥)
       → mk.touched k ≡ true
   children_touched k c was is other = true_from_ne_false (mk.touched k) (λ plain. other (c.alike k was is plain).children)
 
-  pub label_touched : (k : ℕ) (x y : Label) → AreCovered old new mk → has k old ≡ true → has k new ≡ true → label_of old k ≡ Some x → label_of new k ≡ Some y
+  pub label_touched : (k : ℕ) (x y : Label) → AreCoveredByParents old new mk → has k old ≡ true → has k new ≡ true
+      → label_of old k ≡ Some x → label_of new k ≡ Some y
       → (x.kind ≡ y.kind → x.fields ≡ y.fields → ⊥) → mk.touched k ≡ true
   label_touched k x y c was is was_label is_label other = true_from_ne_false (mk.touched k) (λ plain.
       let kinds : Some x.kind ≡ Some y.kind =
@@ -88,7 +91,8 @@ module _ (old new : Forest) (mk : Marking) (v : HostTree) where
       other (same_Some x.kind y.kind kinds) (same_Some x.fields y.fields fields))
 
   -- the last child of an untouched node has the same kind in both
-  pub last_same : (k : ℕ) → AreCovered old new mk → Sound old → Sound new → IsBetween old new mk v → children_of old k ≡ children_of new k
+  pub last_same : (k : ℕ) → AreCoveredByParents old new mk → Sound old → Sound new → IsBetween old new mk v
+      → children_of old k ≡ children_of new k
       → kind_at old (last_child old k) ≡ kind_at new (last_child new k)
   last_same k c s t b same = by_last (last_child old k) refl (sym (ap last_of same)) where
     by_last : (o : Option ℕ) → last_child old k ≡ o → last_child new k ≡ last_child old k → kind_at old (last_child old k) ≡ kind_at new (last_child new k)

@@ -19,7 +19,8 @@ use Rattle.lx_forest.specs.Views.{kind_at}
 use Rattle.lx_forest.specs.Suited.{is_suited}
 use Rattle.lx_forest.proofs.Edits.{has-root}
 use Rattle.lx_links.specs.Stands.{node_of}
-use Rattle.lx_forest.specs.Covered.{Marking, AreCovered}
+use Rattle.lx_forest.specs.Covered.{Marking}
+use Rattle.lx_reconcile.specs.Covering.{AreCoveredByParents}
 use Rattle.lx_reconcile.specs.Allowed.{Shows, hosts_of, unkept, marked_children, staying}
 use Rattle.lx_render.specs.Render.{tag_of, attributes_of, text_of, face_of, last_kind, needs_break}
 use Rattle.lx_reconcile.specs.declared.moves.Move.{Move}
@@ -39,7 +40,7 @@ use Rattle.lx_forest.specs.Lookups.{key_of, roots}
 use Rattle.lx_forest.proofs.Lookups.{has-child}
 use Rattle.lx_links.proofs.Placed.{parent_of-child}
 use Rattle.lx_links.specs.Stands.{Sound}
-use Rattle.lx_reconcile.specs.Reading.{reads_in, reads_below}
+use Rattle.lx_reconcile.specs.Reading.{reads_in, reads_below, most_reads}
 use Rattle.lx_reconcile.proofs.Reading.{marked_children-total, weight, size_if, old_sizes_less, reads_less, roots_of}
 use Rattle.lx_reconcile.proofs.Skipped.{skipped}
 use Rattle.lx_reconcile.proofs.Texts.{none_of_kind}
@@ -203,9 +204,10 @@ tree_ordered : (f : Forest) → IsTree f → IsForest f
 tree_ordered nil t = absurd (let e = t.alone in cc)
 tree_ordered (tree l below rest) t = t.sound.in_order (λ e. absurd (cc))
 
-pub are_between : (old new : Forest) (mk : Marking) (v : HostTree) → AreCovered old new mk → IsTree old → IsTree new → Shows v old → IsNumbered v
+pub are_between : (old new : Forest) (mk : Marking) (v : HostTree) → AreCoveredByParents old new mk
+    → ((q : ℕ) → mk.touched q ≡ true → mk.noted q ≡ true) → IsTree old → IsTree new → Shows v old → IsNumbered v
     → IsRooted v.hosts → IsBetween old new mk v
-are_between old new mk v covered was is shows numbered rooted =
+are_between old new mk v covered noted was is shows numbered rooted =
     let at = root_at v.hosts old (tree_ordered old was) (one_tree old (tree_ordered old was) was.alone) shows rooted in
     record {
       view = record { before = tree_ordered old was; after = tree_ordered new is; shows = shows; numbered = numbered; rooted = rooted };
@@ -213,6 +215,7 @@ are_between old new mk v covered was is shows numbered rooted =
       sound = is.sound;
       whole = ap first_tree at.is ∙ sym at.is;
       covered = covered;
+      noted = noted;
     }
 
 pub root_there : (f : Forest) → IsTree f → has 0 f ≡ true
@@ -250,10 +253,6 @@ pub root_same_tag : (old new : Forest) (k : ℕ) (was now : Node) → k ≡ 0 �
     → Some now ≡ option_map node_of (record_at new k) → tag_of was.kind was.fields ≡ tag_of now.kind now.fields
 root_same_tag old new k was now e s t f g =
     ap (λ k. tag_of k was.fields) (root_kind old k was e s f) ∙ sym (ap (λ k. tag_of k now.fields) (root_kind new k now e t g))
-
--- the most reads that there are for all that may be done
-abbrev pub most_reads : Forest → Forest → (ℕ → Bool) → ℕ
-most_reads old f noted = 8 * (marked_children (staying noted f) old + marked_children noted f + unkept old None f + 1)
 
 -- how many reads go to the root and below it
 pub root_reads : (old f : Forest) (noted : ℕ → Bool) → IsTree old → IsTree f → noted 0 ≡ true → 2 + reads_below old f noted 0 ≤ most_reads old f noted

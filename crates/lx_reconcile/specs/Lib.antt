@@ -2,6 +2,7 @@ pub mod Allowed
 pub mod Allowing
 pub mod Changing
 pub mod Counting
+pub mod Covering
 pub mod Created
 pub mod Families
 pub mod Handled

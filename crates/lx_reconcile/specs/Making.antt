@@ -4,7 +4,8 @@ use Rattle.std.specs.Prelude.{ℕ, ◌≡◌, ◌+◌, ◌≤◌, ◌++◌, true
 use Rattle.std.specs.List.{AllByRecursion}
 use Rattle.lx_node.specs.Limits.{last_u32}
 use Rattle.lx_trees.specs.NamedTrees.{total}
-use Rattle.lx_forest.specs.Covered.{Marking, AreCovered}
+use Rattle.lx_forest.specs.Covered.{Marking}
+use Rattle.lx_reconcile.specs.Covering.{AreCoveredByParents}
 use Rattle.lx_reconcile.specs.Allowed.{IsDue, unkept}
 use Rattle.lx_host.specs.declared.op.Op.{Op}
 use Rattle.lx_host.specs.Hosts.{Host, HostTree}
@@ -17,13 +18,14 @@ use Rattle.lx_reconcile.specs.Handled.{IsReconciled}
 use Rattle.lx_reconcile.specs.ToCome.{IsView, IsInWalk}
 use Rattle.lx_reconcile.specs.Walk.{standing}
 
--- The host tree shows the old one of two trees, with nothing after it.
+-- The host tree shows the old one of two trees, with nothing after it, and marks cover both.
 pub record IsBetween (old new : Forest) (mk : Marking) (v : HostTree) : Type 0 where
   pub view : IsView old new v
   pub was_sound : Sound old
   pub sound : Sound new
   pub whole : first_tree v.hosts ≡ v.hosts
-  pub covered : AreCovered old new mk
+  pub covered : AreCoveredByParents old new mk
+  pub noted : (key : ℕ) → mk.touched key ≡ true → mk.noted key ≡ true
 
 -- After the operations at the start there are others that reconcile the host of k. They use the ids from n on, up to m.
 pub record Reconciles (old new : Forest) (mk : Marking) (v : HostTree) (k n : ℕ) (start end : List Op) (m : ℕ) : Type 0 where

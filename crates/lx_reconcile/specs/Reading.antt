@@ -5,7 +5,7 @@ use Rattle.lx_trees.specs.NamedTrees.{total}
 use Rattle.lx_forest.specs.Forest.{Forest}
 use Rattle.lx_forest.specs.Lookups.{roots, children_of, trees_of}
 use Rattle.lx_render.specs.Render.{tag_of}
-use Rattle.lx_reconcile.specs.Allowed.{places_of, is_only}
+use Rattle.lx_reconcile.specs.Allowed.{places_of, is_only, marked_children, staying, unkept}
 
 -- At most so many reads go to these trees of children of a node: none to one that is kept without a mark; else two to the
 -- child, two to the last children and one to each child before and after, and what goes to those after; and to one that isn't
@@ -22,3 +22,7 @@ reads_in old noted parent (tree label below rest) =
 abbrev pub reads_below : Forest → Forest → (ℕ → Bool) → ℕ → ℕ
 reads_below old new noted key =
     2 + length (children_of old key) + length (children_of new key) + reads_in old noted (Some key) (trees_of new (children_of new key))
+
+-- the most reads that there are for all that may be done between two trees
+abbrev pub most_reads : Forest → Forest → (ℕ → Bool) → ℕ
+most_reads old new noted = 8 * (marked_children (staying noted new) old + marked_children noted new + unkept old None new + 1)

@@ -1,6 +1,6 @@
 -- A run of children of a node, and what is beside it. Only this crate's own contracts cite it.
 use Rattle.std.specs.Prelude.{ℕ, ◌≡◌, ◌+◌, ◌++◌, Bool, false, true, is_none, if◌then◌else◌, List, [], ◌∷◌, length, map, filter, Option, None, Some}
-use Rattle.lx_trees.specs.Siblings.{is_among, first_of, last_of, from_name, up_to_name}
+use Rattle.lx_trees.specs.Siblings.{is_among, first_of, last_of, next_in, previous_in, from_name, up_to_name}
 use Rattle.lx_node.specs.declared.node.Node.{Node}
 use Rattle.lx_reconcile.specs.declared.moves.Move.{Move}
 use Rattle.lx_reconcile.specs.declared.windows.Window.{Window}
@@ -42,6 +42,12 @@ pub record IsWindowOfMarks (noted : ℕ → Bool) (children : List ℕ) (w : Win
   pub front_plain : (k : ℕ) → is_among k is.front ≡ true → noted k ≡ false
   pub back_plain : (k : ℕ) → is_among k is.back ≡ true → noted k ≡ false
   pub none : w.keys.items ≡ [] → children ≡ []
+
+-- Each of the first children that carries no mark is one of the second, between the same neighbours.
+pub record PlainStay (noted : ℕ → Bool) (olds news : List ℕ) : Type 0 where
+  pub among : (c : ℕ) → is_among c olds ≡ true → noted c ≡ false → is_among c news ≡ true
+  pub previous : (c : ℕ) → is_among c olds ≡ true → noted c ≡ false → previous_in news c ≡ previous_in olds c
+  pub next : (c : ℕ) → is_among c olds ≡ true → noted c ≡ false → next_in news c ≡ next_in olds c
 
 -- ---- the children after
 

@@ -9,7 +9,7 @@ use lx_node::NoMemory;
 use std::alloc::Global;
 use std::marker::Model;
 
-/// The operations of one commit, in their order. Nothing but `operations` makes one.
+/// The operations of one commit, in their order. Nothing but `operations` and `operations_by_parents` makes one.
 pub struct Batch {
     ops: Ops,
     reads: u64,
@@ -59,8 +59,10 @@ impl Batch {
     }
 }
 
-ghost use Rattle.std.specs.Prelude.{true, ◌≡◌, ◌+◌, ◌*◌, ◌≤◌, None, IfOk};
+ghost use Rattle.std.specs.Prelude.{true, false, ◌≡◌, ◌+◌, ◌*◌, ◌≤◌, None, IfOk};
 ghost use Rattle.lx_forest.specs.Covered.{AreCovered};
+ghost use Rattle.lx_reconcile.specs.Covering.{AreCoveredByParents};
+ghost use Rattle.lx_reconcile.specs.Reading.{most_reads};
 ghost use Rattle.lx_reconcile.specs.Allowed.{Shows, marked_children, staying, unkept};
 ghost use Rattle.lx_reconcile.specs.Allowing.{marking, IsAllowed};
 ghost use Rattle.lx_forest.specs.Lookups.{alone, has};
@@ -91,6 +93,57 @@ pub fn operations<'a, R: Records<'a>>(
     ensures told { IfOk result (λ batch. R.count before.new + R.count after.new ≤ R.count before.old + R.count after.old + batch.reads) }
     ensures reads { R.count before.new + R.count after.new ≤ R.count before.old + R.count after.old + 8 * (marked_children (staying (marking marks.now).noted (alone 0 (R.forest after.old))) (alone 0 (R.forest before.old)) + marked_children (marking marks.now).noted (alone 0 (R.forest after.old)) + unkept (alone 0 (R.forest before.old)) None (alone 0 (R.forest after.old)) + 1) }
 {
+    batch_of(alloc, before, after, marks, false, hosts)
+}
+
+/// The same where the marks cover by parents alone. Where children come, go or move, their parent is marked itself;
+/// neither those beside them nor those that are gone need a mark. All children of a node that is marked itself are
+/// read, so that `operations` reads fewer where the marks cover neighbours too.
+pub fn operations_by_parents<'a, R: Records<'a>>(
+    alloc: Global,
+    before: &mut R,
+    after: &mut R,
+    marks: &Marks,
+    hosts: &HostTree,
+) -> Result<Batch, NoMemory>
+    requires rooted_before { has 0 (R.forest before.old) ≡ true }
+    requires rooted_after { has 0 (R.forest after.old) ≡ true }
+    requires covered { AreCoveredByParents (alone 0 (R.forest before.old)) (alone 0 (R.forest after.old)) (marking marks.now) }
+    requires shown { Shows hosts.now.tree (alone 0 (R.forest before.old)) }
+    requires room { hosts.now.tree.next + unkept (alone 0 (R.forest before.old)) None (alone 0 (R.forest after.old)) ≤ last_u32 }
+    ensures allowed { IfOk result (λ batch. IsAllowed (alone 0 (R.forest before.old)) (alone 0 (R.forest after.old)) (marking marks.now) hosts.now.tree batch.ops) }
+    ensures before { R.forest before.new ≡ R.forest before.old }
+    ensures after { R.forest after.new ≡ R.forest after.old }
+    ensures bounded { IfOk result (λ batch. batch.reads ≤ 8 * (marked_children (staying (marking marks.now).noted (alone 0 (R.forest after.old))) (alone 0 (R.forest before.old)) + marked_children (marking marks.now).noted (alone 0 (R.forest after.old)) + unkept (alone 0 (R.forest before.old)) None (alone 0 (R.forest after.old)) + 1)) }
+    ensures told { IfOk result (λ batch. R.count before.new + R.count after.new ≤ R.count before.old + R.count after.old + batch.reads) }
+    ensures reads { R.count before.new + R.count after.new ≤ R.count before.old + R.count after.old + 8 * (marked_children (staying (marking marks.now).noted (alone 0 (R.forest after.old))) (alone 0 (R.forest before.old)) + marked_children (marking marks.now).noted (alone 0 (R.forest after.old)) + unkept (alone 0 (R.forest before.old)) None (alone 0 (R.forest after.old)) + 1) }
+{
+    batch_of(alloc, before, after, marks, true, hosts)
+}
+
+/// The operations between two trees. Where `whole` is true all children of a node that is marked itself are walked
+/// over, so that the marks may cover by parents alone.
+fn batch_of<'a, R: Records<'a>>(
+    alloc: Global,
+    before: &mut R,
+    after: &mut R,
+    marks: &Marks,
+    whole: bool,
+    hosts: &HostTree,
+) -> Result<Batch, NoMemory>
+    requires rooted_before { has 0 (R.forest before.old) ≡ true }
+    requires rooted_after { has 0 (R.forest after.old) ≡ true }
+    requires covered { AreCoveredByParents (alone 0 (R.forest before.old)) (alone 0 (R.forest after.old)) (marking marks.now) }
+    requires wide { whole ≡ false → AreCovered (alone 0 (R.forest before.old)) (alone 0 (R.forest after.old)) (marking marks.now) }
+    requires shown { Shows hosts.now.tree (alone 0 (R.forest before.old)) }
+    requires room { hosts.now.tree.next + unkept (alone 0 (R.forest before.old)) None (alone 0 (R.forest after.old)) ≤ last_u32 }
+    ensures allowed { IfOk result (λ batch. IsAllowed (alone 0 (R.forest before.old)) (alone 0 (R.forest after.old)) (marking marks.now) hosts.now.tree batch.ops) }
+    ensures before { R.forest before.new ≡ R.forest before.old }
+    ensures after { R.forest after.new ≡ R.forest after.old }
+    ensures bounded { IfOk result (λ batch. batch.reads ≤ most_reads (alone 0 (R.forest before.old)) (alone 0 (R.forest after.old)) (marking marks.now).noted) }
+    ensures told { IfOk result (λ batch. R.count before.new + R.count after.new ≤ R.count before.old + R.count after.old + batch.reads) }
+    ensures reads { R.count before.new + R.count after.new ≤ R.count before.old + R.count after.old + most_reads (alone 0 (R.forest before.old)) (alone 0 (R.forest after.old)) (marking marks.now).noted }
+{
     let mut ops = Vec::new(alloc);
     let mut first = Tally::new(before);
     let mut second = Tally::new(after);
@@ -99,6 +152,7 @@ pub fn operations<'a, R: Records<'a>>(
         &mut first,
         &mut second,
         marks,
+        whole,
         hosts,
         &mut ops,
     )?;

@@ -26,6 +26,19 @@ pub(crate) fn is_noted(marks: &Marks, key: Key) -> bool
     marks.has_leaf(key) || marks.element(key).is_some()
 }
 
+/// Whether a node is marked itself.
+pub(crate) fn is_touched(marks: &Marks, key: Key) -> bool
+    ensures { result ≡ (marking marks.now).touched key }
+{
+    if marks.has_leaf(key) {
+        return true;
+    }
+    match marks.element(key) {
+        Some(flag) => flag,
+        None => false,
+    }
+}
+
 /// The host right above the one that shows a node, where there are both.
 fn host_above(hosts: &HostTree, key: Key) -> Option<u32>
     ensures { result ≡ families.host_above hosts.now.tree key }

@@ -2,7 +2,7 @@
 //! trees side by side.
 
 ghost use Rattle.lx_node.specs.Limits.{last_u32, last_u64};
-ghost use Rattle.std.specs.Prelude.{◌≡◌, ◌+◌, ◌*◌, ◌<◌, ◌≤◌, ◌↔◌, ◌++◌, ◌∷◌, [], ℕ, true, length, IsTrue, None, Some, option_map, IfOk, OnOk};
+ghost use Rattle.std.specs.Prelude.{◌≡◌, ◌+◌, ◌*◌, ◌<◌, ◌≤◌, ◌↔◌, ◌++◌, ◌&&◌, ◌∷◌, [], ℕ, true, false, length, IsTrue, None, Some, option_map, IfOk, OnOk};
 ghost use Rattle.lx_trees.specs.NamedTrees.{total};
 ghost use Rattle.lx_host.specs.declared.op.Op.TheVariants as op;
 ghost use Rattle.lx_host.specs.Html.{first_tree};
@@ -10,6 +10,7 @@ ghost use Rattle.lx_forest.specs.Lookups.{alone, roots, trees_of, children_of, f
 ghost use Rattle.lx_forest.specs.Records.{record_at};
 ghost use Rattle.lx_links.specs.Stands.{node_of, Sound};
 ghost use Rattle.lx_forest.specs.Covered.{AreCovered};
+ghost use Rattle.lx_reconcile.specs.Covering.{AreCoveredByParents};
 ghost use Rattle.lx_reconcile.specs.Looking.{Stays};
 ghost use Rattle.lx_reconcile.specs.Allowed.{hosts_of, marked_children, staying, unkept, Shows};
 ghost use Rattle.lx_reconcile.specs.Allowing.{marking, IsAllowed};
@@ -19,15 +20,16 @@ ghost use Rattle.lx_reconcile.specs.Reconciled.{host_in};
 ghost use Rattle.lx_reconcile.specs.Families.{marked_keys, AreFamilies};
 ghost use Rattle.lx_reconcile.specs.Walk.{standing, IsPart};
 ghost use Rattle.lx_reconcile.specs.Reading.{reads_in, reads_below};
+ghost use Rattle.lx_reconcile.specs.Windows.{PlainStay};
 ghost use Rattle.lx_reconcile.specs.Making.{IsBetween, Reconciles, MakesMoves, AreComing, IsNext};
 ghost use Rattle.lx_reconcile.specs.declared.moves.Move.TheVariants.{Stay};
 
 use crate::creation::create_tree;
 use crate::faces::{is_ended, push_ending, push_face};
-use crate::family::{Family, families_of, is_noted};
+use crate::family::{Family, families_of, is_noted, is_touched};
 use crate::looks::{Look, Looked, found};
 use crate::moves::Move;
-use crate::windows::{Window, marked_window, moves_in};
+use crate::windows::{Window, marked_window, moves_in, moves_of_all};
 use indexmap::IndexMap;
 use lx_host::{HostTree, Op};
 use lx_marks::Marks;
@@ -140,18 +142,20 @@ fn replace_child<S, L: Look<S>>(
     Ok(())
 }
 
-/// What all of these functions are given: the marks with their families, and the view.
+/// What all of these functions are given: the marks with their families, and the view. Where `whole` is true all
+/// children of a touched node are walked over, since those that move or go may carry no mark.
 #[derive(Clone, Copy)]
 pub(crate) struct Given<'v> {
     alloc: Global,
     marks: &'v Marks,
+    whole: bool,
     families: &'v IndexMap<u32, Family>,
     hosts: &'v HostTree,
 }
 
 /// What is to be done with the children of a node, of which these are the first ones before and after: with all that
 /// are in the run of those with marks. The others stay, and nothing is to be done for them.
-fn moves_of<B, A, O: Look<B>, N: Look<A>>(
+fn window_moves<B, A, O: Look<B>, N: Look<A>>(
     given: &Given<'_>,
     before: &mut B,
     after: &mut A,
@@ -163,7 +167,7 @@ fn moves_of<B, A, O: Look<B>, N: Look<A>>(
     requires families { AreFamilies given.now.hosts.now.tree (marked_keys given.now.marks.now) given.now.families.now }
     requires host { parent.now.host ≡ host_in given.now.hosts.now.tree parent.now.key }
     requires there_before { has parent.now.key (O.forest before.old) ≡ true }
-    requires there_after { has parent.now.key (N.forest after.old) ≡ true }
+    requires stay { PlainStay (marking given.now.marks.now).noted (children_of (O.forest before.old) parent.now.key) (children_of (N.forest after.old) parent.now.key) }
     requires was { was ≡ first_child (O.forest before.old) parent.now.key }
     requires now { now ≡ first_child (N.forest after.old) parent.now.key }
     ensures part { IfOk result (λ moves. IsPart (marking given.now.marks.now).noted (children_of (O.forest before.old) parent.now.key) (children_of (N.forest after.old) parent.now.key) moves.items) }
@@ -184,6 +188,45 @@ fn moves_of<B, A, O: Look<B>, N: Look<A>>(
     moves_in::<A, N>(given.alloc, after, parent.key, &mut window, now)
 }
 
+/// Whether all children of a node are walked over, and not a run of them alone.
+fn walks_all(given: &Given<'_>, key: Key) -> bool
+    ensures { result ≡ (given.now.whole && (marking given.now.marks.now).touched key) }
+{
+    given.whole && is_touched(given.marks, key)
+}
+
+/// What is to be done with the children of a node, of which these are the first ones before and after: with all of them
+/// where they are all walked over, and else with those of a run. The others stay, and nothing is to be done for them.
+fn moves_of<B, A, O: Look<B>, N: Look<A>>(
+    given: &Given<'_>,
+    before: &mut B,
+    after: &mut A,
+    parent: &Shown,
+    was: Option<Key>,
+    now: Option<Key>,
+) -> Result<Vec<Move>, NoMemory>
+    requires between { IsBetween (O.forest before.old) (N.forest after.old) (marking given.now.marks.now) given.now.hosts.now.tree }
+    requires wide { given.now.whole ≡ false → AreCovered (O.forest before.old) (N.forest after.old) (marking given.now.marks.now) }
+    requires families { AreFamilies given.now.hosts.now.tree (marked_keys given.now.marks.now) given.now.families.now }
+    requires host { parent.now.host ≡ host_in given.now.hosts.now.tree parent.now.key }
+    requires there_before { has parent.now.key (O.forest before.old) ≡ true }
+    requires there_after { has parent.now.key (N.forest after.old) ≡ true }
+    requires was { was ≡ first_child (O.forest before.old) parent.now.key }
+    requires now { now ≡ first_child (N.forest after.old) parent.now.key }
+    ensures part { IfOk result (λ moves. IsPart (marking given.now.marks.now).noted (children_of (O.forest before.old) parent.now.key) (children_of (N.forest after.old) parent.now.key) moves.items) }
+    ensures before { O.forest before.new ≡ O.forest before.old }
+    ensures after { N.forest after.new ≡ N.forest after.old }
+    ensures backing_before { Stays (O.backing before.old) (O.backing before.new) }
+    ensures backing_after { Stays (N.backing after.old) (N.backing after.new) }
+    ensures reads_before { O.count before.new ≤ O.count before.old + length (children_of (O.forest before.old) parent.now.key) }
+    ensures reads_after { N.count after.new ≤ N.count after.old + length (children_of (N.forest after.old) parent.now.key) }
+{
+    if walks_all(given, parent.key) {
+        return moves_of_all::<B, A, O, N>(given.alloc, before, after, parent.key, was, now);
+    }
+    window_moves::<B, A, O, N>(given, before, after, parent, was, now)
+}
+
 /// Adds the operations for a node that both trees have at the same place, with the same element.
 #[cycle(reconciling)]
 pub(crate) fn reconcile_node<B, A, O: Look<B>, N: Look<A>>(
@@ -195,6 +238,7 @@ pub(crate) fn reconcile_node<B, A, O: Look<B>, N: Look<A>>(
     written: &mut Written,
 ) -> Result<(), NoMemory>
     requires between { IsBetween (O.forest before.old) (N.forest after.old) (marking given.now.marks.now) given.now.hosts.now.tree }
+    requires wide { given.now.whole ≡ false → AreCovered (O.forest before.old) (N.forest after.old) (marking given.now.marks.now) }
     requires families { AreFamilies given.now.hosts.now.tree (marked_keys given.now.marks.now) given.now.families.now }
     requires was { Some both.was.now ≡ option_map node_of (record_at (O.forest before.old) key) }
     requires now { Some both.now.now ≡ option_map node_of (record_at (N.forest after.old) key) }
@@ -237,6 +281,7 @@ fn make_moves<B, A, O: Look<B>, N: Look<A>>(
     written: &mut Written,
 ) -> Result<(), NoMemory>
     requires between { IsBetween (O.forest before.old) (N.forest after.old) (marking given.now.marks.now) given.now.hosts.now.tree }
+    requires wide { given.now.whole ≡ false → AreCovered (O.forest before.old) (N.forest after.old) (marking given.now.marks.now) }
     requires families { AreFamilies given.now.hosts.now.tree (marked_keys given.now.marks.now) given.now.families.now }
     requires host { parent.now.host ≡ host_in given.now.hosts.now.tree parent.now.key }
     requires coming { AreComing (O.forest before.old) (N.forest after.old) given.now.hosts.now.tree parent.now.key moves.now written.old.next }
@@ -264,6 +309,7 @@ fn make_move<B, A, O: Look<B>, N: Look<A>>(
     written: &mut Written,
 ) -> Result<(), NoMemory>
     requires between { IsBetween (O.forest before.old) (N.forest after.old) (marking given.now.marks.now) given.now.hosts.now.tree }
+    requires wide { given.now.whole ≡ false → AreCovered (O.forest before.old) (N.forest after.old) (marking given.now.marks.now) }
     requires families { AreFamilies given.now.hosts.now.tree (marked_keys given.now.marks.now) given.now.families.now }
     requires host { parent.now.host ≡ host_in given.now.hosts.now.tree parent.now.key }
     requires coming { IsNext (O.forest before.old) (N.forest after.old) given.now.hosts.now.tree parent.now.key step written.old.next }
@@ -316,6 +362,7 @@ fn reconcile_child<B, A, O: Look<B>, N: Look<A>>(
     written: &mut Written,
 ) -> Result<(), NoMemory>
     requires between { IsBetween (O.forest before.old) (N.forest after.old) (marking given.now.marks.now) given.now.hosts.now.tree }
+    requires wide { given.now.whole ≡ false → AreCovered (O.forest before.old) (N.forest after.old) (marking given.now.marks.now) }
     requires families { AreFamilies given.now.hosts.now.tree (marked_keys given.now.marks.now) given.now.families.now }
     requires host { parent.now.host ≡ host_in given.now.hosts.now.tree parent.now.key }
     requires coming { IsNext (O.forest before.old) (N.forest after.old) given.now.hosts.now.tree parent.now.key (Stay key) written.old.next }
@@ -349,6 +396,7 @@ pub(crate) fn reconcile_root<B, A, O: Look<B>, N: Look<A>>(
     before: &mut B,
     after: &mut A,
     marks: &Marks,
+    whole: bool,
     hosts: &HostTree,
     ops: &mut Vec<Op>,
 ) -> Result<(), NoMemory>
@@ -356,7 +404,8 @@ pub(crate) fn reconcile_root<B, A, O: Look<B>, N: Look<A>>(
     requires rooted_after { has 0 (N.forest after.old) ≡ true }
     requires alone_before { Sound (O.forest before.old) → roots (O.forest before.old) ≡ 0 ∷ [] }
     requires alone_after { Sound (N.forest after.old) → roots (N.forest after.old) ≡ 0 ∷ [] }
-    requires covered { AreCovered (O.forest before.old) (N.forest after.old) (marking marks.now) }
+    requires covered { AreCoveredByParents (O.forest before.old) (N.forest after.old) (marking marks.now) }
+    requires wide { whole ≡ false → AreCovered (O.forest before.old) (N.forest after.old) (marking marks.now) }
     requires shown { Shows hosts.now.tree (O.forest before.old) }
     requires room { hosts.now.tree.next + unkept (O.forest before.old) None (N.forest after.old) ≤ last_u32 }
     requires none { ops.old.items ≡ [] }
@@ -383,6 +432,7 @@ pub(crate) fn reconcile_root<B, A, O: Look<B>, N: Look<A>>(
     let given = Given {
         alloc,
         marks,
+        whole,
         families: &families,
         hosts,
     };

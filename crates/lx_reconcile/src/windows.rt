@@ -4,7 +4,7 @@
 ghost use Rattle.std.specs.Prelude.{◌≡◌, ◌+◌, ◌≤◌, ◌||◌, ◌∷◌, [], true, None, length, map, is_some, if◌then◌else◌, IfOk, OnOk};
 ghost use Rattle.std.specs.Option.{option_or};
 ghost use Rattle.lx_trees.specs.Siblings.{is_among, is_named, is_place, last_of, NoRepeats};
-ghost use Rattle.lx_forest.specs.Lookups.{children_of, has, next_of, IsForest};
+ghost use Rattle.lx_forest.specs.Lookups.{children_of, first_child, has, next_of, IsForest};
 ghost use Rattle.lx_links.specs.Stands.{Sound};
 ghost use Rattle.lx_reconcile.specs.Looking.{Stays};
 ghost use Rattle.lx_reconcile.specs.Allowing.{marking};
@@ -227,6 +227,52 @@ fn keys_in<S, L: Look<S>>(
         at = next_in_run::<S, L>(source, run, child);
     }
     Ok(keys)
+}
+
+/// The keys of all children of a node, of which this is the first. It reads each of them.
+fn all_keys<S, L: Look<S>>(
+    alloc: Global,
+    source: &mut S,
+    key: Key,
+    first: Option<Key>,
+) -> Result<Vec<Key>, NoMemory>
+    requires sound { Sound (L.forest source.old) }
+    requires first { first ≡ first_child (L.forest source.old) key }
+    ensures keys { IfOk result (λ keys. keys.items ≡ children_of (L.forest source.old) key) }
+    ensures same { L.forest source.new ≡ L.forest source.old }
+    ensures backing { Stays (L.backing source.old) (L.backing source.new) }
+    ensures reads { L.count source.new ≤ L.count source.old + length (children_of (L.forest source.old) key) }
+{
+    let run = Run { first, last: None };
+    keys_in::<S, L>(alloc, source, key, &run)
+}
+
+/// What is to be done with all children of a node, of which these are the first ones before and after.
+pub(crate) fn moves_of_all<B, A, O: Look<B>, N: Look<A>>(
+    alloc: Global,
+    before: &mut B,
+    after: &mut A,
+    key: Key,
+    was: Option<Key>,
+    now: Option<Key>,
+) -> Result<Vec<Move>, NoMemory>
+    requires sound_before { Sound (O.forest before.old) }
+    requires sound_after { Sound (N.forest after.old) }
+    requires ordered_before { IsForest (O.forest before.old) }
+    requires ordered_after { IsForest (N.forest after.old) }
+    requires was { was ≡ first_child (O.forest before.old) key }
+    requires now { now ≡ first_child (N.forest after.old) key }
+    ensures walk { IfOk result (λ moves. walks.IsWalk (children_of (O.forest before.old) key) (children_of (N.forest after.old) key) moves.items) }
+    ensures before { O.forest before.new ≡ O.forest before.old }
+    ensures after { N.forest after.new ≡ N.forest after.old }
+    ensures backing_before { Stays (O.backing before.old) (O.backing before.new) }
+    ensures backing_after { Stays (N.backing after.old) (N.backing after.new) }
+    ensures reads_before { O.count before.new ≤ O.count before.old + length (children_of (O.forest before.old) key) }
+    ensures reads_after { N.count after.new ≤ N.count after.old + length (children_of (N.forest after.old) key) }
+{
+    let old = all_keys::<B, O>(alloc, before, key, was)?;
+    let new = all_keys::<A, N>(alloc, after, key, now)?;
+    walk(alloc, old.as_slice(), new.as_slice())
 }
 
 /// A child before which a move brings another one: this one, or where it names none, the child after the run.

@@ -119,6 +119,7 @@ make_moves-make_move-requires g t c =
     let less = Made.move_less_still c.requires.between after coming in
     let still = rw (← before, ← after) at coming in
     let between = rw (← before, ← after) at c.requires.between in
+    let wide = rw (← before, ← after) at c.requires.wide in
     search rules
 
 pub make_moves-loop-step-preserved : goal.make_moves-loop-step-preserved
@@ -171,6 +172,7 @@ pub reconcile_child-reconcile_node-requires : goal.reconcile_child-reconcile_nod
 reconcile_child-reconcile_node-requires g t c =
     let room = rw (← c.found-was.ensures.same, ← c.found-now.ensures.same) at (Made.stay_room c.requires.between c.requires.coming) in
     let between = rw (← c.found-was.ensures.same, ← c.found-now.ensures.same) at c.requires.between in
+    let wide = rw (← c.found-was.ensures.same, ← c.found-now.ensures.same) at c.requires.wide in
     let less = Made.child_node_less c.found-now.ensures.same c.args.key in
     let behind = Made.stay_behind c.requires.between c.requires.coming in
     search rules
@@ -264,6 +266,7 @@ reconcile_node-make_moves-requires g t c =
     c.requires.behind c.requires.room moves c.in_ok-push_face.ensures.face in
     let coming = rw (← before, ← after) at next in
     let between = rw (← before, ← after) at c.requires.between in
+    let wide = rw (← before, ← after) at c.requires.wide in
     let less = Whole.node_less _ _ c.args.key after in
     search rules
 

@@ -3,6 +3,8 @@ use Rattle.lx_node.specs.Limits.{last_u64}
 use Rattle.lx_forest.specs.Lookups.{has}
 use Rattle.lx_reconcile.specs.Allowing.{marking, IsTree}
 use Rattle.lx_reconcile.specs.Making.{IsBetween}
+use Rattle.lx_reconcile.specs.Reading.{most_reads}
+use Rattle.lx_reconcile.proofs.Covered.{touched_noted}
 use Rattle.lx_reconcile.proofs.Whole
 use Rattle.lx_reconcile.proofs.reconciling.reconcile_root.Given.{Over}
 use Rattle.lx_reconcile.proofs.reconciling.reconcile_root.Goals as goal
@@ -15,19 +17,21 @@ trees g c = (Whole.is_tree _ c.found-was.ensures.sound c.requires.alone_before, 
 -- and the view shows the first of them
 between : (g : Over) (c : After-found-now g)
     → IsBetween (g.O.Look.forest c.args.before.now) (g.N.Look.forest c.args.after.now) (marking c.args.marks.now) c.args.hosts.now.tree
-between g c = let both =
-    trees g c in Whole.are_between _ _ _ _ c.requires.covered both.0 both.1 c.requires.shown c.next_id-next.ensures.numbered c.next_id-next.ensures.rooted
+between g c =
+    let both = trees g c in
+    Whole.are_between _ _ _ _ c.requires.covered (touched_noted c.args.marks.now) both.0 both.1 c.requires.shown c.next_id-next.ensures.numbered
+    c.next_id-next.ensures.rooted
 
 -- no sum of what there is to do is too large
 fits : (g : Over) (c : After-found-now g)
-    → Whole.most_reads (g.O.Look.forest c.args.before.now) (g.N.Look.forest c.args.after.now) (marking c.args.marks.now).noted < last_u64
+    → most_reads (g.O.Look.forest c.args.before.now) (g.N.Look.forest c.args.after.now) (marking c.args.marks.now).noted < last_u64
 fits g c = let both = trees g c in Whole.bound_fits _ _ _ both.0 both.1
 
 -- no more is read than that
 reads : (g : Over) (c : After-reconcile_node g)
     → g.O.Look.count c.reconcile_node.new.before + g.N.Look.count c.reconcile_node.new.after
     ≤ g.O.Look.count c.args.before.now + g.N.Look.count c.args.after.now
-    + Whole.most_reads (g.O.Look.forest c.args.before.now) (g.N.Look.forest c.args.after.now) (marking c.args.marks.now).noted
+    + most_reads (g.O.Look.forest c.args.before.now) (g.N.Look.forest c.args.after.now) (marking c.args.marks.now).noted
 reads g c =
     let both = trees g (goal.at.After-reconcile_node g c).After-found-now in
     let marked = sym c.is_noted.ensures ∙ c.if-not-is_noted.false in
@@ -45,6 +49,9 @@ found-now-requires g c = record { there = ap (λ k. has k (g.N.Look.forest c.arg
 pub reconcile_node-requires-clause-between : goal.reconcile_node-requires-clause-between
 reconcile_node-requires-clause-between g c =
     rw (← c.found-was.ensures.same, ← c.found-now.ensures.same) at (between g (goal.at.reconcile_node-requires-clause-between g c).After-found-now)
+
+pub reconcile_node-requires-clause-wide : goal.reconcile_node-requires-clause-wide
+reconcile_node-requires-clause-wide g c = rw (← c.found-was.ensures.same, ← c.found-now.ensures.same) at c.requires.wide
 
 pub reconcile_node-requires-clause-was : goal.reconcile_node-requires-clause-was
 reconcile_node-requires-clause-was g c = rw c.found-was.ensures.same (ap (λ n. Some n) c.node.ensures ∙ c.found-was.ensures.found)
