@@ -1,14 +1,11 @@
 -- A node as a reader sees it, and the operations for its children, one after another.
 use Rattle.std.proofs.Common.{◌≡◌, ◌∙◌, ◌+◌, ◌<◌, ◌≤◌, ℕ, true, false, List, [], ◌∷◌, ◌++◌, length, Option, None, Some, option_map, is_some, refl, sym, ap, subst, arith, append_assoc}
 use Rattle.std.proofs.lemmas.Bool.Decides.{eqb_tells}
-use Rattle.std.proofs.lemmas.Option.{same_Some}
 use Rattle.lx_node.specs.Limits.{last_u32}
 use Rattle.lx_trees.specs.Trees.{nil, tree, joined}
 use Rattle.lx_trees.specs.NamedTrees.{total}
 use Rattle.lx_trees.specs.Siblings.{is_among, is_place, first_of, last_of, next_in, from_name}
 use Rattle.lx_trees.specs.Spots.{Spot, children_at}
-use Rattle.lx_node.specs.declared.kind.Kind.{Kind}
-use Rattle.lx_node.specs.declared.fields.Fields.{Fields}
 use Rattle.lx_node.specs.declared.node.Node.{Node}
 use Rattle.lx_trees.proofs.NamedTrees.{total-joined}
 use Rattle.lx_trees.proofs.Positions.{from_name-step}
@@ -16,16 +13,16 @@ use Rattle.lx_trees.proofs.Siblings.{next_in-among}
 use Rattle.lx_host.specs.declared.op.Op.{Op}
 use Rattle.lx_host.specs.declared.op.Op.TheVariants.{Place}
 use Rattle.lx_forest.specs.Forest.{Label, Forest}
-use Rattle.lx_forest.specs.Lookups.{spot, has, alone, trees_of, label_of, kind_of, parent_of, children_of, children_below, first_child, last_child, siblings, next_of, IsForest, previous_of}
-use Rattle.lx_forest.specs.Records.{linked, record_at}
+use Rattle.lx_forest.specs.Lookups.{spot, has, alone, trees_of, label_of, kind_of, parent_of, children_of, children_below, first_child, next_of, IsForest}
+use Rattle.lx_forest.specs.Records.{record_at}
 use Rattle.lx_forest.specs.Views.{kind_at}
 use Rattle.lx_forest.proofs.Edits.{is_some-spot, key-spot}
 use Rattle.lx_forest.proofs.Lookups.{alone-spot, has-child, NoRepeats-children_of}
 use Rattle.lx_forest.proofs.Walks.{total-alone-lt}
 use Rattle.lx_links.specs.Stands.{node_of, Sound}
 use Rattle.lx_links.proofs.Placed.{parent_of-child}
-use Rattle.lx_links.proofs.Read.{label_from, IsRead, is_read, label_read, tree_read}
-use Rattle.lx_links.proofs.Up.{in_order, in_order_at}
+use Rattle.lx_links.proofs.Read.{label_from, IsRead, is_read, tree_read}
+use Rattle.lx_links.proofs.Up.{in_order}
 use Rattle.lx_render.specs.Render.{last_kind}
 use Rattle.lx_reconcile.specs.Created.{create_op, creation, creations, creation_of}
 use Rattle.lx_reconcile.proofs.Lists.{last_of-among}
