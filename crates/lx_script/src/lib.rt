@@ -29,6 +29,7 @@ mod steps;
 mod words;
 mod write;
 
+pub use lx_fields::{FieldFault, fields_of};
 pub use read::{line_of, read_line, read_value};
 pub use reply::Reply;
 pub use write::{write_commit, write_reply, write_slice, write_state};
