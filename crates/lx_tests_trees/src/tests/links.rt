@@ -325,3 +325,36 @@ fn what_stands_nowhere_is_dropped(rt: HostRuntime) -> Result<(), Fail> {
     assert_eq!(rt; (links.items(), links.len()), (0, 2));
     Ok(())
 }
+
+/// The keys of the root's children, in their order.
+fn below_root(alloc: Global, links: &Links) -> Result<String, Fail> {
+    let mut text = String::new(alloc);
+    for key in links.children(Key::root()) {
+        write!(text, "{} ", key.number())?;
+    }
+    Ok(text)
+}
+
+/// Two paragraphs, of which the second was placed before the first.
+fn turned(alloc: Global) -> Result<Links, Fault> {
+    let nodes = [(1, Kind::Paragraph), (2, Kind::Paragraph)];
+    let edits = [Edit::Place(0, None, 1), Edit::Place(0, Some(1), 2)];
+    built(alloc, &nodes, &edits)
+}
+
+#[test]
+fn a_node_is_placed_before_another(rt: HostRuntime) -> Result<(), Fail> {
+    let links = turned(rt.alloc())?;
+    expect(&below_root(rt.alloc(), &links)?, "2 1 ")
+}
+
+/// Nothing is left of two paragraphs that were taken out, but the root.
+#[test]
+fn the_root_alone_is_left(rt: HostRuntime) -> Result<(), Fail> {
+    let mut links = turned(rt.alloc())?;
+    links.detach(Key(1))?;
+    links.detach(Key(2))?;
+    links.drop_detached()?;
+    expect(&below_root(rt.alloc(), &links)?, "")?;
+    expect(&attached(rt.alloc(), &links)?, "1 nodes")
+}
