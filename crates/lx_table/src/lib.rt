@@ -6,8 +6,9 @@
 //! * `insert_table` goes by the focus of a range, or of cells that are selected.
 //! * `insert_row`, `insert_column`, `delete_row`, `delete_column` and `unmerge` go by the cell of that focus.
 //! * `merge_cells` goes by the cells that are selected.
+//! * `select_cells` selects cells of a table. It changes nothing else, and a draft on which it was refused is as it was.
 //!
-//! Each but `grid` and `insert_table` first gives each cell of the table the rows that it covers, by one set for each cell in
+//! Each but `grid`, `insert_table` and `select_cells` first gives each cell of the table the rows that it covers, by one set for each cell in
 //! preorder, also where that changes nothing.
 #![tactic(auto)]
 
@@ -26,6 +27,7 @@ mod places;
 mod reading;
 mod rectangles;
 mod rows;
+mod selecting;
 mod spans;
 mod spots;
 mod unmerging;
@@ -39,5 +41,6 @@ pub use laws::{grids_are_told, heights_keep_grids, tables_are_covered};
 pub use merging::merge_cells;
 pub use narrowing::delete_column;
 pub use rows::insert_row;
+pub use selecting::select_cells;
 pub use spots::Spot;
 pub use unmerging::unmerge;
