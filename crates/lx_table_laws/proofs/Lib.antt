@@ -1,3 +1,4 @@
 pub mod Again
 pub mod ComeAndGo
 pub mod Opened
+pub mod Rectangles
