@@ -6,10 +6,10 @@
 //! * `insert_table` goes by the focus of a range, or of cells that are selected.
 //! * `insert_row`, `insert_column`, `delete_row`, `delete_column` and `unmerge` go by the cell of that focus.
 //! * `merge_cells` goes by the cells that are selected.
-//! * `select_cells` selects cells of a table. It changes nothing else, and a draft on which it was refused is as it was.
+//! * `select_cells` selects cells of a table and changes nothing else. A draft on which it was refused is as it was.
 //!
-//! Each but `grid`, `insert_table` and `select_cells` first gives each cell of the table the rows that it covers, by one set for each cell in
-//! preorder, also where that changes nothing.
+//! Each but `grid`, `insert_table` and `select_cells` first gives each cell of the table the rows that it covers, by
+//! one set for each cell in preorder, also where that changes nothing.
 #![tactic(auto)]
 
 mod caret;

@@ -8,14 +8,14 @@ pub fn rows_come_and_go()
     ensures { RowsComeAndGo }
 {}
 
-/// The rectangle of two cells is the least that holds both and whose edge no cell crosses: there is one such rectangle, and the
-/// cells that start in it are those that it holds. This function does nothing, and its contract is these laws.
+/// The rectangle of two cells is the least that holds both and whose edge no cell crosses. There is one such rectangle,
+/// and the cells that start in it are those that it holds. This function does nothing, and its contract is these laws.
 pub fn rectangles_are_least()
     ensures { RectanglesAreLeast }
 {}
 
-/// `merge_cells` merges the cells of that rectangle of the two selected ones, however it is found. This function does nothing,
-/// and its contract is this law.
+/// `merge_cells` merges the cells of that rectangle of the two selected ones, however it is found. This function does
+/// nothing, and its contract is this law.
 pub fn merges_go_by_least()
     ensures { MergesGoByLeast }
 {}
