@@ -33,7 +33,9 @@ use Rattle.lx_fields.specs.Exporting.{node_data}
 use Rattle.lx_json.specs.Exporting.{trees_data}
 use Rattle.lx_links.proofs.Read.{IsRead, tree_read}
 use Rattle.lx_json.proofs.BackWritten.{written, items_of-written, written-joined, map_more}
+use Rattle.lx_json.specs.GivenBack.{AreGivenBack}
 use Rattle.lx_clip.specs.Extents.{AreAlike}
+use Rattle.lx_clip.proofs.GivenBack.{joined_given, none_given}
 use Rattle.lx_clip.specs.Covers.{Extent, from_in, to_in, is_covered_text, cut_to, part_cover, text_cover, is_nil, element_cover, leaf_cover, cover, covers, are_inline, item_if, label_for}
 
 -- ---- one after another
@@ -225,11 +227,17 @@ pub record IsCoveredUpTo (e : Extent) (f : Forest) (all left : List ℕ) (values
   pub part : (q : ℕ) → is_among q left ≡ true → is_among q all ≡ true
   pub objects : map view values ++ written (covers e (trees_of f left)) ≡ written (covers e (trees_of f all))
   pub alike : (inline && are_inline (covers e (trees_of f left))) ≡ are_inline (covers e (trees_of f all))
+  pub told : AreGivenBack (covers e (trees_of f left)) → AreGivenBack (covers e (trees_of f all))
 
 -- the covers of the first of those that are left, and of the rest
 parted : (e : Extent) (f : Forest) (left rest : List ℕ) (k : ℕ) → left ≡ k ∷ rest
     → covers e (trees_of f left) ≡ joined (covers e (alone k f)) (covers e (trees_of f rest))
 parted e f left rest k first = ap (λ ks. covers e (trees_of f ks)) first ∙ covers-joined e (alone k f) (trees_of f rest)
+
+given_more : (e : Extent) (f : Forest) (left rest : List ℕ) (k : ℕ) → left ≡ k ∷ rest → AreGivenBack (covers e (alone k f))
+    → AreGivenBack (covers e (trees_of f rest)) → AreGivenBack (covers e (trees_of f left))
+given_more e f left rest k first given others =
+    subst AreGivenBack (sym (parted e f left rest k first)) (joined_given (covers e (alone k f)) (covers e (trees_of f rest)) given others)
 
 left_part : (all left rest : List ℕ) (k q : ℕ) → ((q : ℕ) → is_among q left ≡ true → is_among q all ≡ true) → left ≡ k ∷ rest → is_among q rest ≡ true
     → is_among q all ≡ true
@@ -255,14 +263,15 @@ covered_past e f all left rest k values inline m first none = record {
       ap (λ b. inline && (b && are_inline (covers e (trees_of f rest)))) (sym (nothing_is_inline (covers e (alone k f)) none))
       ∙ ap (λ b. inline && b) (sym (inline-joined (covers e (alone k f)) (covers e (trees_of f rest))) ∙ ap are_inline (sym (parted e f left rest k first)))
       ∙ m.alike;
+  told = λ others. m.told (given_more e f left rest k first (none_given (covers e (alone k f)) none) others);
 }
 
 -- one child more
 pub covered_more : (e : Extent) (f : Forest) (all left rest : List ℕ) (k : ℕ) (values new : List Value) (inline then : Bool) (v : Value)
     → IsCoveredUpTo e f all left values inline → left ≡ k ∷ rest → new ≡ values ++ v ∷ []
     → then ≡ (inline && is_at is_inline f k) → trees_data (covers e (alone k f)) ≡ item (view v) no_items
-    → are_inline (covers e (alone k f)) ≡ is_at is_inline f k → IsCoveredUpTo e f all rest new then
-covered_more e f all left rest k values new inline then v m first is then_is own kind = record {
+    → are_inline (covers e (alone k f)) ≡ is_at is_inline f k → AreGivenBack (covers e (alone k f)) → IsCoveredUpTo e f all rest new then
+covered_more e f all left rest k values new inline then v m first is then_is own kind given = record {
   part = λ q among. left_part all left rest k q m.part first among;
   objects =
       ap (λ vs. map view vs ++ written (covers e (trees_of f rest))) is
@@ -277,6 +286,7 @@ covered_more e f all left rest k values new inline then v m first is then_is own
       ∙ and_assoc inline (are_inline (covers e (alone k f))) (are_inline (covers e (trees_of f rest)))
       ∙ ap (λ b. inline && b) (sym (inline-joined (covers e (alone k f)) (covers e (trees_of f rest))) ∙ ap are_inline (sym (parted e f left rest k first)))
       ∙ m.alike;
+  told = λ others. m.told (given_more e f left rest k first given others);
 }
 
 -- what the call for a child needs
@@ -313,3 +323,10 @@ all_inline e f key all left values inline is none m =
     by_all : (b : Bool) → b ≡ (b && true)
     by_all true = refl
     by_all false = refl
+
+pub all_given : (e : Extent) (f : Forest) (key : ℕ) (all left : List ℕ) (values : List Value) (inline : Bool) → all ≡ children_of f key → left ≡ []
+    → IsCoveredUpTo e f all left values inline
+    → AreGivenBack (covers e (trees_of f (children_of f key)))
+unfolding covers
+all_given e f key all left values inline is none m =
+    subst (λ ks. AreGivenBack (covers e (trees_of f ks))) is (m.told (subst (λ ks. AreGivenBack (covers e (trees_of f ks))) (sym none) tt))

@@ -1,6 +1,8 @@
 pub mod Alike
+pub mod Copied
 pub mod Covered
 pub mod Cut
+pub mod GivenBack
 pub mod Lasts
 pub mod Lying
 pub mod Parted

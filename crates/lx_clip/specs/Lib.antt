@@ -1,3 +1,4 @@
+pub mod Copies
 pub mod Covers
 pub mod Extents
 pub mod Laws

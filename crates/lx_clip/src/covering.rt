@@ -17,6 +17,7 @@ ghost use Rattle.lx_draft.specs.Steps.{text_replaced};
 ghost use Rattle.lx_blocks.specs.Blocks.{is_at};
 ghost use Rattle.lx_blocks.specs.Ranges.{if_normal};
 ghost use Rattle.lx_json.specs.Exporting.{trees_data};
+ghost use Rattle.lx_json.specs.GivenBack.{AreGivenBack};
 ghost use Rattle.lx_clip.specs.Covers as covers;
 ghost use Rattle.lx_clip.specs.Covers.{item_if, label_for};
 ghost use Rattle.lx_clip.specs.Extents.{seen, with_key, AreAlike};
@@ -153,7 +154,8 @@ fn cut_fields(alloc: Global, text: &TextFields, from: u32, to: u32) -> Result<Fi
 #[tactic(auto, unfolding(lx_json::specs::Exporting::trees_data))]
 fn part_value(alloc: Global, node: &Node, from: u32, to: u32) -> Result<Value, NoMemory>
     requires { IsOfKind node.now.kind node.now.fields }
-    ensures { IfOk result (λ v. (key : ℕ) → trees_data (covers.part_cover from to (label_for key node.now)) ≡ item (view v) no_items) }
+    ensures written { IfOk result (λ v. (key : ℕ) → trees_data (covers.part_cover from to (label_for key node.now)) ≡ item (view v) no_items) }
+    ensures told { IfOk result (λ v. (key : ℕ) → AreGivenBack (covers.part_cover from to (label_for key node.now))) }
 {
     match normal_text(node) {
         Some(text) => {
@@ -173,7 +175,8 @@ fn text_cover(
     text: &TextFields,
 ) -> Result<Option<Value>, NoMemory>
     requires { IsOfKind node.now.kind node.now.fields }
-    ensures { IfOk result (λ v. trees_data (covers.text_cover (seen extent.now) text.now (label_for key node.now)) ≡ item_if (option_map view v)) }
+    ensures written { IfOk result (λ v. trees_data (covers.text_cover (seen extent.now) text.now (label_for key node.now)) ≡ item_if (option_map view v)) }
+    ensures told { IfOk result (λ v. AreGivenBack (covers.text_cover (seen extent.now) text.now (label_for key node.now))) }
 {
     let from = from_in(extent, key);
     let to = to_in(extent, key, lx_text::length_of(&text.text));
@@ -198,7 +201,8 @@ fn element_cover(
     below: Vec<Value>,
 ) -> Result<Option<Value>, NoMemory>
     requires { IsOfKind node.now.kind node.now.fields }
-    ensures { IfOk result (λ v. (f : Forest) → items_view below.items ≡ trees_data f → trees_data (covers.element_cover (seen extent.now) (label_for key node.now) f) ≡ item_if (option_map view v)) }
+    ensures written { IfOk result (λ v. (f : Forest) → items_view below.items ≡ trees_data f → trees_data (covers.element_cover (seen extent.now) (label_for key node.now) f) ≡ item_if (option_map view v)) }
+    ensures told { IfOk result (λ v. (f : Forest) → items_view below.items ≡ trees_data f → AreGivenBack f → AreGivenBack (covers.element_cover (seen extent.now) (label_for key node.now) f)) }
 {
     if below.is_empty() && !is_between(extent, key) {
         return Ok(None);
@@ -216,7 +220,8 @@ fn leaf_cover(
     node: &Node,
 ) -> Result<Option<Value>, NoMemory>
     requires { IsOfKind node.now.kind node.now.fields }
-    ensures { IfOk result (λ v. trees_data (covers.leaf_cover (seen extent.now) (label_for key node.now)) ≡ item_if (option_map view v)) }
+    ensures written { IfOk result (λ v. trees_data (covers.leaf_cover (seen extent.now) (label_for key node.now)) ≡ item_if (option_map view v)) }
+    ensures told { IfOk result (λ v. AreGivenBack (covers.leaf_cover (seen extent.now) (label_for key node.now))) }
 {
     if is_between(extent, key) {
         let value = node_value(alloc, node.kind, &node.fields, Vec::new(alloc))?;
@@ -249,6 +254,7 @@ fn cover(alloc: Global, links: &Links, extent: &Extent, key: Key) -> Result<Opti
     requires there { lookups.has key links.now ≡ true }
     ensures written { IfOk result (λ v. trees_data (covers.covers (seen extent.now) (lookups.alone key links.now)) ≡ item_if (option_map view v)) }
     ensures inline { IfOk result (λ v. IfSome v (λ _. covers.are_inline (covers.covers (seen extent.now) (lookups.alone key links.now)) ≡ is_at is_inline links.now key)) }
+    ensures told { IfOk result (λ v. AreGivenBack (covers.covers (seen extent.now) (lookups.alone key links.now))) }
     ensures sound { Sound links.now }
 {
     let Some(node) = links.node(key) else {
@@ -274,6 +280,7 @@ pub(crate) fn covers_below(
 ) -> Result<Covered, NoMemory>
     ensures written { IfOk result (λ c. items_view c.values.items ≡ trees_data (slices.covers_below (seen extent.now) links.now key)) }
     ensures inline { IfOk result (λ c. c.inline ≡ covers.are_inline (slices.covers_below (seen extent.now) links.now key)) }
+    ensures told { IfOk result (λ c. AreGivenBack (slices.covers_below (seen extent.now) links.now key)) }
 {
     let mut covered = Covered {
         values: Vec::new(alloc),

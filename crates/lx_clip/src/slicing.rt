@@ -1,12 +1,15 @@
 //! The slice of a selection.
 
-ghost use Rattle.std.specs.Prelude.{◌≡◌, true, false, option_map, Some, IfOk};
+ghost use Rattle.std.specs.Prelude.{◌≡◌, true, false, option_map, Some, IfOk, IfSome};
 ghost use Rattle.serde_json.specs.Data.{Data};
 ghost use Rattle.serde_json.specs.View.{view, items_view};
 ghost use Rattle.serde_json.specs.Written.{has_float};
 ghost use Rattle.lx_forest.specs.Lookups.{is_attached};
 ghost use Rattle.lx_caret.specs.Lying.{EachPoint};
+ghost use Rattle.lx_links.specs.Stands.{Sound};
 ghost use Rattle.lx_json.specs.Exporting.{trees_data};
+ghost use Rattle.lx_json.specs.GivenBack.{AreGivenBack};
+ghost use Rattle.lx_clip.specs.Copies.{IsCopy};
 ghost use Rattle.lx_clip.specs.Extents.{seen};
 ghost use Rattle.lx_clip.specs.Slices as slices;
 
@@ -29,7 +32,8 @@ fn common_block(links: &Links, start: &Point, end: &Point) -> Option<Key>
 
 /// What is written for what is covered of the frame of the start, or of the root where there is none.
 fn frame_covers(alloc: Global, links: &Links, extent: &Extent) -> Result<Vec<Value>, NoMemory>
-    ensures { IfOk result (λ values. items_view values.items ≡ trees_data (slices.frame_covers (seen extent.now) links.now)) }
+    ensures written { IfOk result (λ values. items_view values.items ≡ trees_data (slices.frame_covers (seen extent.now) links.now)) }
+    ensures told { IfOk result (λ values. AreGivenBack (slices.frame_covers (seen extent.now) links.now)) }
 {
     let top = frame(links, extent.start.key).unwrap_or(Key::root());
     let covered = covers_below(alloc, links, extent, top)?;
@@ -43,7 +47,8 @@ fn covers_in(
     extent: &Extent,
     block: Option<Key>,
 ) -> Result<Vec<Value>, NoMemory>
-    ensures { IfOk result (λ values. items_view values.items ≡ trees_data (slices.covers_in block (seen extent.now) links.now)) }
+    ensures written { IfOk result (λ values. items_view values.items ≡ trees_data (slices.covers_in block (seen extent.now) links.now)) }
+    ensures told { IfOk result (λ values. AreGivenBack (slices.covers_in block (seen extent.now) links.now)) }
 {
     if let Some(block) = block {
         let covered = covers_below(alloc, links, extent, block)?;
@@ -63,7 +68,8 @@ fn covers_between(
 ) -> Result<Vec<Value>, NoMemory>
     requires start { is_attached links.now start.now.key ≡ true }
     requires end { is_attached links.now end.now.key ≡ true }
-    ensures { IfOk result (λ values. items_view values.items ≡ trees_data (slices.covers_between links.now start.now end.now)) }
+    ensures written { IfOk result (λ values. items_view values.items ≡ trees_data (slices.covers_between links.now start.now end.now)) }
+    ensures told { IfOk result (λ values. AreGivenBack (slices.covers_between links.now start.now end.now)) }
 {
     let extent = make_extent(alloc, links, start, end)?;
     let block = common_block(links, start, end);
@@ -82,7 +88,9 @@ fn slice_value(alloc: Global, nodes: Vec<Value>) -> Result<Value, AllocError>
 fn slice_of(alloc: Global, links: &Links, range: &Ranged) -> Result<Option<Value>, NoMemory>
     requires anchor { is_attached links.now range.now.anchor.key ≡ true }
     requires focus { is_attached links.now range.now.focus.key ≡ true }
-    ensures { IfOk result (λ slice. option_map view slice ≡ option_map slices.slice_data (slices.range_covers links.now range.now)) }
+    ensures sliced { IfOk result (λ slice. option_map view slice ≡ option_map slices.slice_data (slices.range_covers links.now range.now)) }
+    ensures told { IfOk result (λ slice. IfSome (slices.range_covers links.now range.now) (λ c. AreGivenBack c)) }
+    ensures sound { IfOk result (λ slice. IfSome (slices.range_covers links.now range.now) (λ c. Sound links.now)) }
 {
     if is_collapsed(range) {
         return Ok(None);
@@ -105,10 +113,13 @@ fn slice_of(alloc: Global, links: &Links, range: &Ranged) -> Result<Option<Value
 /// covered, of an element itself where it holds anything covered or lies wholly between the points, and of any other node the
 /// node where it lies wholly between. Where both points are in one block, and all that is covered of it is inline, the nodes are
 /// what is covered of the block's children; else of the cell's that holds the points, or of the root's.
+///
+/// What is covered is a copy, so it is read back as it is wherever the slice is put in.
 #[tactic(auto, unfolding(crate::specs::Slices::sliced))]
 pub fn slice(alloc: Global, state: &State) -> Result<Option<Value>, NoMemory>
     requires { EachPoint (λ p. is_attached state.now.links p.key ≡ true) state.now.selection }
     ensures sliced { IfOk result (λ slice. option_map view slice ≡ option_map slices.slice_data (slices.sliced state.now.links state.now.selection)) }
+    ensures copy { IfOk result (λ slice. IfSome (slices.sliced state.now.links state.now.selection) IsCopy) }
     ensures whole { IfOk result (λ slice. (d : Data) → option_map view slice ≡ Some d → has_float d ≡ false) }
 {
     match shown_range(&state.selection) {

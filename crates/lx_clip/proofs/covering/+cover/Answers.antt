@@ -10,7 +10,8 @@ use Rattle.lx_blocks.specs.Blocks.{is_at}
 use Rattle.lx_clip.specs.Covers.{covers, item_if, label_for}
 use Rattle.lx_clip.specs.Extents.{seen}
 use Rattle.lx_clip.specs.Slices as slices
-use Rattle.lx_clip.proofs.Covered.{is_kind, kind_read, text_read, element_read, leaf_read, as_written, as_element, as_inline, some_kind, child_left, covered_more, covered_past, all_covered, all_inline}
+use Rattle.lx_clip.proofs.Covered.{is_kind, kind_read, text_read, element_read, leaf_read, as_written, as_element, as_inline, some_kind, child_left, covered_more, covered_past, all_covered, all_inline, all_given}
+use Rattle.lx_clip.proofs.GivenBack.{as_given, as_element_given}
 use Rattle.lx_clip.proofs.covering.+cover.Goals as goal
 use Rattle.lx_clip.proofs.covering.+cover.Goals.{cover-In-Some}
 
@@ -29,7 +30,7 @@ pub cover-returns-in-Text-clause-written : goal.cover-returns-in-Text-clause-wri
 cover-returns-in-Text-clause-written t c =
     as_written c.text_cover.result (covers (seen c.args.extent.now) (alone c.args.key c.args.links.now)) _
     (text_read (seen c.args.extent.now) c.args.links.now c.args.key c.in-Some.node.now c.in-Text.text
-    (read (goal.at.cover-returns-in-Text-clause-written t c).In-Some) c.in-Text.is) c.text_cover.ensures
+    (read (goal.at.cover-returns-in-Text-clause-written t c).In-Some) c.in-Text.is) c.text_cover.ensures.written
 
 pub cover-returns-in-Text-clause-inline : goal.cover-returns-in-Text-clause-inline
 cover-returns-in-Text-clause-inline t c =
@@ -37,7 +38,7 @@ cover-returns-in-Text-clause-inline t c =
     as_inline c.text_cover.result c.in-Some.node.now.kind (covers (seen c.args.extent.now) (alone c.args.key c.args.links.now)) _
     (kind_read (seen c.args.extent.now) c.args.links.now c.args.key c.in-Some.node.now (read node)) (kind node)
     (as_written c.text_cover.result (covers (seen c.args.extent.now) (alone c.args.key c.args.links.now)) _
-    (text_read (seen c.args.extent.now) c.args.links.now c.args.key c.in-Some.node.now c.in-Text.text (read node) c.in-Text.is) c.text_cover.ensures)
+    (text_read (seen c.args.extent.now) c.args.links.now c.args.key c.in-Some.node.now c.in-Text.text (read node) c.in-Text.is) c.text_cover.ensures.written)
 
 pub cover-returns-in-Ok-clause-written : goal.cover-returns-in-Ok-clause-written
 cover-returns-in-Ok-clause-written t c =
@@ -46,7 +47,7 @@ cover-returns-in-Ok-clause-written t c =
     as_written c.element_cover.result (covers e (alone c.args.key f)) _
     (element_read e f c.args.key c.in-Some.node.now c.in-Element.field-0 (read (goal.at.cover-returns-in-Ok-clause-written t c).In-Some) c.in-Element.is)
     (as_element c.element_cover.result e (label_for c.args.key c.in-Some.node.now) c.in-Ok.below.values.items (slices.covers_below e f c.args.key)
-    c.in-Ok.ensures.written c.element_cover.ensures)
+    c.in-Ok.ensures.written c.element_cover.ensures.written)
 
 pub cover-returns-in-Ok-clause-inline : goal.cover-returns-in-Ok-clause-inline
 cover-returns-in-Ok-clause-inline t c =
@@ -58,7 +59,7 @@ cover-returns-in-Ok-clause-inline t c =
     (as_written c.element_cover.result (covers e (alone c.args.key f)) _
     (element_read e f c.args.key c.in-Some.node.now c.in-Element.field-0 (read node) c.in-Element.is)
     (as_element c.element_cover.result e (label_for c.args.key c.in-Some.node.now) c.in-Ok.below.values.items (slices.covers_below e f c.args.key)
-    c.in-Ok.ensures.written c.element_cover.ensures))
+    c.in-Ok.ensures.written c.element_cover.ensures.written))
 
 pub cover-returns-in_default-fields-clause-written : goal.cover-returns-in_default-fields-clause-written
 cover-returns-in_default-fields-clause-written t c =
@@ -66,7 +67,7 @@ cover-returns-in_default-fields-clause-written t c =
     (leaf_read (seen c.args.extent.now) c.args.links.now c.args.key c.in-Some.node.now
     (read (goal.at.cover-returns-in_default-fields-clause-written t c).In-Some) c.in_default-fields.not-Text
     c.in_default-fields.not-Element)
-    c.leaf_cover.ensures
+    c.leaf_cover.ensures.written
 
 pub cover-returns-in_default-fields-clause-inline : goal.cover-returns-in_default-fields-clause-inline
 cover-returns-in_default-fields-clause-inline t c =
@@ -75,7 +76,32 @@ cover-returns-in_default-fields-clause-inline t c =
     (kind_read (seen c.args.extent.now) c.args.links.now c.args.key c.in-Some.node.now (read node)) (kind node)
     (as_written c.leaf_cover.result (covers (seen c.args.extent.now) (alone c.args.key c.args.links.now)) _
     (leaf_read (seen c.args.extent.now) c.args.links.now c.args.key c.in-Some.node.now (read node) c.in_default-fields.not-Text c.in_default-fields.not-Element)
-    c.leaf_cover.ensures)
+    c.leaf_cover.ensures.written)
+
+-- ---- what is covered of it is given back
+
+pub cover-returns-in-Text-clause-told : goal.cover-returns-in-Text-clause-told
+cover-returns-in-Text-clause-told t c =
+    as_given c.text_cover.result (covers (seen c.args.extent.now) (alone c.args.key c.args.links.now)) _
+    (text_read (seen c.args.extent.now) c.args.links.now c.args.key c.in-Some.node.now c.in-Text.text
+    (read (goal.at.cover-returns-in-Text-clause-told t c).In-Some) c.in-Text.is) c.text_cover.ensures.told
+
+pub cover-returns-in-Ok-clause-told : goal.cover-returns-in-Ok-clause-told
+cover-returns-in-Ok-clause-told t c =
+    let e = seen c.args.extent.now in
+    let f = c.args.links.now in
+    as_given c.element_cover.result (covers e (alone c.args.key f)) _
+    (element_read e f c.args.key c.in-Some.node.now c.in-Element.field-0 (read (goal.at.cover-returns-in-Ok-clause-told t c).In-Some) c.in-Element.is)
+    (as_element_given c.element_cover.result e (label_for c.args.key c.in-Some.node.now) c.in-Ok.below.values.items (slices.covers_below e f c.args.key)
+    c.in-Ok.ensures.written c.in-Ok.ensures.told c.element_cover.ensures.told)
+
+pub cover-returns-in_default-fields-clause-told : goal.cover-returns-in_default-fields-clause-told
+cover-returns-in_default-fields-clause-told t c =
+    as_given c.leaf_cover.result (covers (seen c.args.extent.now) (alone c.args.key c.args.links.now)) _
+    (leaf_read (seen c.args.extent.now) c.args.links.now c.args.key c.in-Some.node.now
+    (read (goal.at.cover-returns-in_default-fields-clause-told t c).In-Some) c.in_default-fields.not-Text
+    c.in_default-fields.not-Element)
+    c.leaf_cover.ensures.told
 
 -- ---- the children
 
@@ -96,7 +122,7 @@ covers_below-loop-child-preserved-in-Ok t c =
     c.loop-child.covered.values.items _
     c.loop-child.covered.inline _ c.in-Ok-Some.value c.loop-child.invariant first c.in-Ok.ensures.values c.in-Ok.ensures.inline
     (c.in-Ok-Some.ensures.written ∙ ap (λ o. item_if (option_map view o)) c.in-Ok-Some.field-0-is)
-    (some_kind c.in-Ok-Some.field-0 c.in-Ok-Some.value c.in-Ok-Some.field-0-is c.in-Ok-Some.ensures.inline)
+    (some_kind c.in-Ok-Some.field-0 c.in-Ok-Some.value c.in-Ok-Some.field-0-is c.in-Ok-Some.ensures.inline) c.in-Ok-Some.ensures.told
 
 pub covers_below-loop-child-preserved : goal.covers_below-loop-child-preserved
 covers_below-loop-child-preserved t c =
@@ -116,5 +142,12 @@ pub covers_below-returns-clause-inline : goal.covers_below-returns-clause-inline
 covers_below-returns-clause-inline t c =
     let none : c.loop-child.child-iterator ≡ [] = search rules in
     all_inline (seen c.args.extent.now) c.args.links.now c.args.key c.into_iter-child-iterator.result c.loop-child.child-iterator
+    c.loop-child.covered.values.items c.loop-child.covered.inline
+    (c.into_iter-child-iterator.ensures.into_iter_gives ∙ c.children-child-items.ensures.children) none c.loop-child.invariant
+
+pub covers_below-returns-clause-told : goal.covers_below-returns-clause-told
+covers_below-returns-clause-told t c =
+    let none : c.loop-child.child-iterator ≡ [] = search rules in
+    all_given (seen c.args.extent.now) c.args.links.now c.args.key c.into_iter-child-iterator.result c.loop-child.child-iterator
     c.loop-child.covered.values.items c.loop-child.covered.inline
     (c.into_iter-child-iterator.ensures.into_iter_gives ∙ c.children-child-items.ensures.children) none c.loop-child.invariant

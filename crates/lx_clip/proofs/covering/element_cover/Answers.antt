@@ -7,8 +7,8 @@ use Rattle.lx_clip.proofs.Covered.{is_kept, lies_between, has_some}
 use Rattle.lx_clip.proofs.covering.element_cover.Goals as goal
 use Rattle.lx_clip.proofs.covering.element_cover.Goals.{else-is_empty-via-then-is_empty+else-not-is_between, else-is_empty-via-else-is_empty}
 
-pub returns : goal.returns
-returns c f below =
+pub returns-clause-written : goal.returns-clause-written
+returns-clause-written c f below =
     let count : vec_len c.args.below ≡ length c.args.below.items = search rules in
     is_kept (seen c.args.extent.now) (label_for c.args.key c.args.node.now) f _
     (elim c.else-is_empty.branch [
