@@ -7,8 +7,8 @@ use Rattle.lx_forest.specs.Lookups.{IsForest, IsHeld}
 use Rattle.lx_json.specs.GivenBack.{AreGivenBack}
 use Rattle.lx_clip.specs.Slices.{sliced}
 
--- What a selection covers of a tree in order, in which each node holds what it may; and what is written for each covered node
--- gives its fields back. `slice` says so of whatever it writes.
+-- What a selection covers of a tree in order, in which each node holds what it may. What is written for each covered node gives
+-- its fields back.
 pub record IsCopy (c : Forest) : Type 0 where
   pub tree : Forest
   pub selection : Selection

@@ -114,7 +114,7 @@ fn slice_of(alloc: Global, links: &Links, range: &Ranged) -> Result<Option<Value
 /// node where it lies wholly between. Where both points are in one block, and all that is covered of it is inline, the nodes are
 /// what is covered of the block's children; else of the cell's that holds the points, or of the root's.
 ///
-/// What is covered is a copy, so it is read back as it is wherever the slice is put in.
+/// What is covered is a copy: a slice that is read back makes the same nodes, but for their keys.
 #[tactic(auto, unfolding(crate::specs::Slices::sliced))]
 pub fn slice(alloc: Global, state: &State) -> Result<Option<Value>, NoMemory>
     requires { EachPoint (λ p. is_attached state.now.links p.key ≡ true) state.now.selection }

@@ -1,130 +1,85 @@
--- What is covered of a document's trees may stand where it is read, and is given back by what is written for it.
-use Rattle.std.proofs.Common.{◌≡◌, ◌∙◌, ◌-◌, ℕ, Bool, true, false, cond, ◌&&◌, not, List, [], ◌∷◌, Option, None, Some, refl, ap, sym, subst, arith}
+-- What is covered of a document's trees may stand where it is read.
+use Rattle.std.proofs.Common.{◌≡◌, ◌∙◌, ℕ, Bool, true, false, cond, ◌&&◌, not, List, [], ◌∷◌, Option, None, Some, refl, ap, sym, subst, arith}
 use Rattle.std.specs.Prelude.{find, unwrap_or}
-use Rattle.std.specs.Str.{all_scalars}
-use Rattle.std.proofs.lemmas.Str.{chars-encodes}
 use Rattle.std.proofs.lemmas.Option.{same_Some}
 use Rattle.lx_trees.specs.Trees.{nil, tree, joined}
 use Rattle.lx_trees.specs.Siblings.{is_among}
-use Rattle.lx_node.specs.Units.{units_of}
 use Rattle.lx_node.specs.Kinds.{is_cell, is_inline, is_block, may_hold, type_name}
 use Rattle.lx_node.specs.declared.kind.Kind.{Kind}
 use Rattle.lx_node.specs.declared.kind.Kind.TheVariants as kinds
 use Rattle.lx_node.specs.declared.fields.Fields.{Fields}
 use Rattle.lx_node.specs.declared.fields.Fields.TheVariants as fields
 use Rattle.lx_node.specs.declared.fields.TextFields.{TextFields}
-use Rattle.lx_text.specs.Texts.{front_of, rest_of, slice_of}
 use Rattle.lx_select.specs.declared.selection.Selection.{Selection}
 use Rattle.lx_forest.specs.Forest.{Forest, Label}
 use Rattle.lx_forest.specs.Lookups.{kind_of, children_of, trees_of, ancestors}
-use Rattle.lx_draft.specs.Faults.{text_in, text_fields}
-use Rattle.lx_draft.specs.Steps.{text_replaced}
+use Rattle.lx_draft.specs.Faults.{text_in}
 use Rattle.lx_draft.specs.Selecting.{length_told}
 use Rattle.lx_blocks.specs.declared.ranges.Ranged.{Ranged}
 use Rattle.lx_blocks.specs.Blocks.{passes, is_at, frame_of, same_node}
 use Rattle.lx_blocks.specs.Ranges.{if_normal, shown_range, is_collapsed, start_of, end_of}
-use Rattle.lx_fields.specs.Storable.{IsStorable, IsTextStorable}
 use Rattle.lx_fields.specs.Types.{kind_of_type}
 use Rattle.lx_fields.proofs.Exported.{type-there}
 use Rattle.lx_json.specs.Exporting.{trees_data}
 use Rattle.lx_clip.specs.Covers.{Extent, from_in, to_in, is_covered_text, cut_to, part_cover, is_nil, cover, covers, are_inline}
 use Rattle.lx_clip.specs.Slices.{extent, covers_below, common_block, frame_covers, if_inline, covers_in, covers_between, range_covers, covers_if, sliced}
 use Rattle.lx_clip.specs.Pasting.{is_inline_type, begins_inline, holder}
-use Rattle.lx_clip.proofs.Cut.{piece_suits}
-use Rattle.lx_clip_laws.specs.Copies.{is_scalar, IsStored, IsKept}
-use Rattle.lx_clip_laws.proofs.Kept.{IsGood, AreGood, kept_below, none_below}
+use Rattle.lx_json.proofs.BackTrees.{AreHeld}
+use Rattle.lx_clip.specs.Copies.{IsCopy}
+use Rattle.lx_clip_laws.proofs.Kept.{IsKept, kept_below, none_below}
 
--- ---- a piece of a text
-
-scalars_front : (n : ℕ) (text : List ℕ) → all_scalars text ≡ true → all_scalars (front_of n text) ≡ true
-unfolding front_of
-scalars_front n [] is = refl
-scalars_front n (c ∷ text) is = grind (arith, is, scalars_front (n - units_of c) text)
-
-scalars_rest : (n : ℕ) (text : List ℕ) → all_scalars text ≡ true → all_scalars (rest_of n text) ≡ true
-unfolding rest_of
-scalars_rest n [] is = refl
-scalars_rest n (c ∷ text) is = grind (arith, is, scalars_rest (n - units_of c) text)
-
-scalars_slice : (from to : ℕ) (text : List ℕ) → all_scalars text ≡ true → all_scalars (slice_of from to text) ≡ true
-unfolding slice_of
-scalars_slice from to text is = scalars_front (to - from) (rest_of from text) (scalars_rest from text is)
-
-normal_is : (kind : Kind) (f : Fields) (text : TextFields) → if_normal (text_fields kind f) ≡ Some text → f ≡ fields.Text text
-normal_is kinds.Text (fields.Text old) text e = grind (arith, e)
-normal_is kind f text e = absurd (cc)
-
--- another text of scalar values
-stored_piece : (l : Label) (text : TextFields) (new : List ℕ) → l.fields ≡ fields.Text text → IsStored l → all_scalars new ≡ true
-    → IsStored (record l { fields = text_replaced text new })
-stored_piece l text new is stored scalar =
-    let own : IsTextStorable text = subst IsStorable is stored.storable in
-    record { storable = record { text = chars-encodes new scalar; format = own.format; style = own.style }; scalar = scalar }
-
-good_cut : (from to : ℕ) (l : Label) → IsGood l → IsGood (cut_to (if_normal (text_in (Some l))) from to l)
-good_cut from to l good = by_text (if_normal (text_fields l.kind l.fields)) refl where
-  by_text : (o : Option TextFields) → if_normal (text_fields l.kind l.fields) ≡ o → IsGood (cut_to o from to l)
-  by_text None e = good
-  by_text (Some text) e =
-      let is : l.fields ≡ fields.Text text = normal_is l.kind l.fields text e in
-      let scalar : all_scalars text.text ≡ true = sym (ap is_scalar is) ∙ good.stored.scalar in
-      record {
-        of_kind = piece_suits l.kind l.fields text (slice_of from to text.text) good.of_kind e;
-        stored = stored_piece l text (slice_of from to text.text) is good.stored (scalars_slice from to text.text scalar);
-      }
+-- ---- covers
 
 cut_kind : (o : Option TextFields) (from to : ℕ) (l : Label) → (cut_to o from to l).kind ≡ l.kind
 cut_kind None from to l = refl
 cut_kind (Some text) from to l = refl
 
--- ---- covers
+held_if : (b : Bool) (parent : Kind) (f : Forest) → AreHeld parent f → AreHeld parent (cond b f nil)
+held_if true parent f held = held
+held_if false parent f held = tt
 
-good_if : (b : Bool) (parent : Kind) (f : Forest) → AreGood parent f → AreGood parent (cond b f nil)
-good_if true parent f good = good
-good_if false parent f good = tt
+held_else : (b : Bool) (parent : Kind) (f : Forest) → AreHeld parent f → AreHeld parent (cond b nil f)
+held_else true parent f held = tt
+held_else false parent f held = held
 
-good_else : (b : Bool) (parent : Kind) (f : Forest) → AreGood parent f → AreGood parent (cond b nil f)
-good_else true parent f good = tt
-good_else false parent f good = good
-
-good_cover : (e : Extent) (parent : Kind) (x : Fields) (l : Label) (below : Forest) → may_hold parent l.kind ≡ true → IsGood l → AreGood l.kind below
-    → AreGood parent (cover e x l below)
-good_cover e parent (fields.Text text) l below held good inner =
+held_cover : (e : Extent) (parent : Kind) (x : Fields) (l : Label) (below : Forest) → may_hold parent l.kind ≡ true → AreHeld l.kind below
+    → AreHeld parent (cover e x l below)
+held_cover e parent (fields.Text text) l below held inner =
     let length : ℕ = length_told text.text in
     let from : ℕ = from_in e l.key in
     let to : ℕ = to_in e l.key length in
-    good_if (is_covered_text e l.key length) parent (part_cover from to l)
-    (ap (may_hold parent) (cut_kind (if_normal (text_in (Some l))) from to l) ∙ held, good_cut from to l good, tt, tt)
-good_cover e parent (fields.Element element) l below held good inner =
-    good_else (is_nil below && not (is_among l.key e.between)) parent (tree l below nil) (held, good, inner, tt)
-good_cover e parent (fields.Embed source) l below held good inner = good_if (is_among l.key e.between) parent (tree l nil nil) (held, good, tt, tt)
-good_cover e parent fields.Bare l below held good inner = good_if (is_among l.key e.between) parent (tree l nil nil) (held, good, tt, tt)
+    held_if (is_covered_text e l.key length) parent (part_cover from to l)
+    (ap (may_hold parent) (cut_kind (if_normal (text_in (Some l))) from to l) ∙ held, tt, tt)
+held_cover e parent (fields.Element element) l below held inner =
+    held_else (is_nil below && not (is_among l.key e.between)) parent (tree l below nil) (held, inner, tt)
+held_cover e parent (fields.Embed source) l below held inner = held_if (is_among l.key e.between) parent (tree l nil nil) (held, tt, tt)
+held_cover e parent fields.Bare l below held inner = held_if (is_among l.key e.between) parent (tree l nil nil) (held, tt, tt)
 
-good_joined : (parent : Kind) (a b : Forest) → AreGood parent a → AreGood parent b → AreGood parent (joined a b)
-good_joined parent nil b x y = y
-good_joined parent (tree l below rest) b x y = (x.0, x.1, x.2, good_joined parent rest b x.3 y)
+held_joined : (parent : Kind) (a b : Forest) → AreHeld parent a → AreHeld parent b → AreHeld parent (joined a b)
+held_joined parent nil b x y = y
+held_joined parent (tree l below rest) b x y = (x.0, x.1, held_joined parent rest b x.2 y)
 
-good_covers : (e : Extent) (parent : Kind) (f : Forest) → AreGood parent f → AreGood parent (covers e f)
+held_covers : (e : Extent) (parent : Kind) (f : Forest) → AreHeld parent f → AreHeld parent (covers e f)
 unfolding covers
-good_covers e parent nil good = tt
-good_covers e parent (tree l below rest) good =
-    good_joined parent (cover e l.fields l (covers e below)) (covers e rest)
-    (good_cover e parent l.fields l (covers e below) good.0 good.1 (good_covers e l.kind below good.2)) (good_covers e parent rest good.3)
+held_covers e parent nil held = tt
+held_covers e parent (tree l below rest) held =
+    held_joined parent (cover e l.fields l (covers e below)) (covers e rest)
+    (held_cover e parent l.fields l (covers e below) held.0 (held_covers e l.kind below held.1)) (held_covers e parent rest held.2)
 
 -- ---- what holds them where they are read
 
-inline_good : (parent : Kind) (f : Forest) → AreGood parent f → are_inline f ≡ true → AreGood kinds.Paragraph f
+inline_held : (parent : Kind) (f : Forest) → AreHeld parent f → are_inline f ≡ true → AreHeld kinds.Paragraph f
 unfolding may_hold
-inline_good parent nil good is = tt
-inline_good parent (tree l below rest) good is =
+inline_held parent nil held is = tt
+inline_held parent (tree l below rest) held is =
     let first : is_inline l.kind ≡ true = grind (arith, is) in
     let others : are_inline rest ≡ true = grind (arith, is) in
-    (first, good.1, good.2, inline_good parent rest good.3 others)
+    (first, held.1, inline_held parent rest held.2 others)
 
-block_good : (f : Forest) → AreGood kinds.Cell f → AreGood kinds.Root f
+block_held : (f : Forest) → AreHeld kinds.Cell f → AreHeld kinds.Root f
 unfolding may_hold
-block_good nil good = tt
-block_good (tree l below rest) good = (good.0, good.1, good.2, block_good rest good.3)
+block_held nil held = tt
+block_held (tree l below rest) held = (held.0, held.1, block_held rest held.2)
 
 typed_inline : (kind : Kind) → passes is_inline (kind_of_type (type_name kind)) ≡ is_inline kind
 unfolding type_name is_inline
@@ -139,22 +94,22 @@ no_inline _ e = cc
 -- they are read as children of a kind that holds them
 pub record IsReadable (c : Forest) : Type 0 where
   pub kind : Kind
-  pub good : AreGood kind c
+  pub held : AreHeld kind c
   pub holds : holder (begins_inline (trees_data c)) ≡ kind
 
 begins : (l : Label) (below rest : Forest) → begins_inline (trees_data (tree l below rest)) ≡ is_inline l.kind
 unfolding trees_data
 begins l below rest = ap is_inline_type (type-there l.kind l.fields (trees_data below)) ∙ typed_inline l.kind
 
-inlines_readable : (c : Forest) → AreGood kinds.Paragraph c → IsReadable c
+inlines_readable : (c : Forest) → AreHeld kinds.Paragraph c → IsReadable c
 unfolding may_hold trees_data
-inlines_readable nil good = record { kind = kinds.Root; good = tt; holds = refl }
-inlines_readable (tree l below rest) good = record { kind = kinds.Paragraph; good = good; holds = ap holder (begins l below rest ∙ good.0) }
+inlines_readable nil held = record { kind = kinds.Root; held = tt; holds = refl }
+inlines_readable (tree l below rest) held = record { kind = kinds.Paragraph; held = held; holds = ap holder (begins l below rest ∙ held.0) }
 
-blocks_readable : (c : Forest) → AreGood kinds.Root c → IsReadable c
+blocks_readable : (c : Forest) → AreHeld kinds.Root c → IsReadable c
 unfolding may_hold trees_data
-blocks_readable nil good = record { kind = kinds.Root; good = tt; holds = refl }
-blocks_readable (tree l below rest) good = record { kind = kinds.Root; good = good; holds = ap holder (begins l below rest ∙ no_inline l.kind good.0) }
+blocks_readable nil held = record { kind = kinds.Root; held = tt; holds = refl }
+blocks_readable (tree l below rest) held = record { kind = kinds.Root; held = held; holds = ap holder (begins l below rest ∙ no_inline l.kind held.0) }
 
 -- ---- a slice
 
@@ -168,23 +123,23 @@ cell_kind (Some kinds.Cell) e = refl
 cell_kind _ e = absurd (cc)
 
 -- the covers of children of a node of this kind
-below_good : (e : Extent) (f : Forest) (p : ℕ) (kind : Kind) → IsKept f → kind_of f p ≡ Some kind → AreGood kind (covers_below e f p)
-below_good e f p kind kept is = good_covers e kind (trees_of f (children_of f p)) (kept_below f p kind kept is)
+below_held : (e : Extent) (f : Forest) (p : ℕ) (kind : Kind) → IsKept f → kind_of f p ≡ Some kind → AreHeld kind (covers_below e f p)
+below_held e f p kind kept is = held_covers e kind (trees_of f (children_of f p)) (kept_below f p kind kept is)
 
 frame_readable : (e : Extent) (f : Forest) → IsKept f → IsReadable (frame_covers e f)
 frame_readable e f kept = by_frame (frame_of f e.start.key) refl where
   by_frame : (o : Option ℕ) → frame_of f e.start.key ≡ o → IsReadable (covers_below e f (unwrap_or o 0))
-  by_frame None at = blocks_readable (covers_below e f 0) (below_good e f 0 kinds.Root kept kept.order.root)
+  by_frame None at = blocks_readable (covers_below e f 0) (below_held e f 0 kinds.Root kept kept.order.root)
   by_frame (Some cell) at =
-      blocks_readable (covers_below e f cell) (block_good (covers_below e f cell)
-      (below_good e f cell kinds.Cell kept (cell_kind (kind_of f cell) (found (is_at is_cell f) (ancestors f e.start.key) cell at))))
+      blocks_readable (covers_below e f cell) (block_held (covers_below e f cell)
+      (below_held e f cell kinds.Cell kept (cell_kind (kind_of f cell) (found (is_at is_cell f) (ancestors f e.start.key) cell at))))
 
 inner_readable : (e : Extent) (f : Forest) (block : ℕ) → IsKept f → are_inline (covers_below e f block) ≡ true → IsReadable (covers_below e f block)
 unfolding covers trees_data
 inner_readable e f block kept inline = by_kind (kind_of f block) refl where
   by_kind : (o : Option Kind) → kind_of f block ≡ o → IsReadable (covers_below e f block)
-  by_kind (Some kind) is = inlines_readable (covers_below e f block) (inline_good kind (covers_below e f block) (below_good e f block kind kept is) inline)
-  by_kind None is = subst (λ t. IsReadable (covers e t)) (sym (none_below f block is)) (record { kind = kinds.Root; good = tt; holds = refl })
+  by_kind (Some kind) is = inlines_readable (covers_below e f block) (inline_held kind (covers_below e f block) (below_held e f block kind kept is) inline)
+  by_kind None is = subst (λ t. IsReadable (covers e t)) (sym (none_below f block is)) (record { kind = kinds.Root; held = tt; holds = refl })
 
 either_readable : (e : Extent) (f : Forest) (block : ℕ) → IsKept f → IsReadable (if_inline (covers_below e f block) (frame_covers e f))
 either_readable e f block kept = by_test (are_inline (covers_below e f block)) refl where
@@ -205,9 +160,12 @@ range_readable f r c kept e = by_tests (is_collapsed r) (same_node (frame_of f r
       subst IsReadable (same_Some (covers_between f start end) c e) (covers_readable (common_block f start end) (extent f start end) f kept)
   by_tests _ _ e = absurd (cc)
 
-pub slice_readable : (f : Forest) (s : Selection) (c : Forest) → IsKept f → sliced f s ≡ Some c → IsReadable c
+slice_readable : (f : Forest) (s : Selection) (c : Forest) → IsKept f → sliced f s ≡ Some c → IsReadable c
 unfolding sliced
 slice_readable f s c kept e = by_range (shown_range s) e where
   by_range : (o : Option Ranged) → covers_if f o ≡ Some c → IsReadable c
   by_range None e = absurd (cc)
   by_range (Some r) e = range_readable f r c kept e
+
+pub copy_readable : (c : Forest) → IsCopy c → IsReadable c
+copy_readable c copy = slice_readable copy.tree copy.selection c (record { order = copy.order; held = copy.held }) copy.covered

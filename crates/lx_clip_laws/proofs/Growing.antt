@@ -32,15 +32,13 @@ use Rattle.std.specs.Prelude.{option_and_then}
 use Rattle.serde_json.specs.Find.{as_array}
 use Rattle.lx_fields.specs.Exporting.{node_data}
 use Rattle.lx_fields.proofs.Exported.{children-there}
-use Rattle.lx_fields.proofs.ReadBack.{reads_back}
 use Rattle.lx_json.specs.Exporting.{trees_data}
-use Rattle.lx_json.specs.GivenBack.{AreGivenBack}
+use Rattle.lx_json.specs.GivenBack.{IsGivenBack, AreGivenBack}
 use Rattle.lx_json.specs.Growing.{grown, children_told}
 use Rattle.lx_json.specs.Back.{pieces_of}
 use Rattle.lx_json.proofs.Looked.{tree_of-node}
 use Rattle.lx_json.proofs.BackTrees.{AreHeld, leaf_below, trees-back}
 use Rattle.lx_json.proofs.NodesMade.{node_made-node, given-list, given-leaf}
-use Rattle.lx_clip_laws.proofs.Kept.{AreGood}
 use Rattle.lx_json.specs.Importing.{label_for, keyed}
 use Rattle.lx_json.specs.Nodes.{put_below, node_new, node_made, items_made, children_given, put_below as put_where, Made, index_place, with_first, nodes_made}
 use Rattle.lx_json.proofs.Grown.{keyed-low, grown-none}
@@ -256,13 +254,20 @@ piece_told place (Ok p) told x t e = by_told (told p) e where
   by_told (Ok below) e = cc
   by_told (Err cause) e = absurd (cc)
 
+-- each of the trees may stand below this kind, and is given back by what is written for it
+abbrev pub AreGood : Kind → Forest → Type 0
+AreGood parent nil = Unit {0}
+AreGood parent (tree l below rest) =
+    (may_hold parent l.kind ≡ true) × IsGivenBack l (trees_data below) × AreGood l.kind below × AreGood parent rest
+
+pub held_good : (parent : Kind) (c : Forest) → AreHeld parent c → AreGivenBack c → AreGood parent c
+held_good parent nil held given = tt
+held_good parent (tree l below rest) held given =
+    (held.0, given.0, held_good l.kind below held.1 given.1, held_good parent rest held.2 given.2)
+
 given_back : (parent : Kind) (c : Forest) → AreGood parent c → AreGivenBack c
 given_back parent nil good = tt
-given_back parent (tree l below rest) good = (
-  record { of_kind = good.1.of_kind; fields = reads_back l.kind l.fields (trees_data below) good.1.of_kind good.1.stored.storable },
-  given_back l.kind below good.2,
-  given_back parent rest good.3,
-)
+given_back parent (tree l below rest) good = (good.1, given_back l.kind below good.2, given_back parent rest good.3)
 
 held : (parent : Kind) (c : Forest) → AreGood parent c → AreHeld parent c
 held parent nil good = tt

@@ -11,11 +11,12 @@ use Rattle.lx_json.specs.Exporting.{trees_data}
 use Rattle.lx_json.specs.Back.{pieces_of}
 use Rattle.lx_json.specs.Nodes.{Made, nodes_made, nodes_read}
 use Rattle.lx_json.proofs.BackKeys.{pieces-keyed}
-use Rattle.lx_clip.specs.Slices.{sliced, slice_data}
+use Rattle.lx_clip.specs.Copies.{IsCopy}
+use Rattle.lx_clip.specs.Slices.{slice_data}
 use Rattle.lx_clip.specs.Pasting.{begins_inline, placed, insert_step, nodes_added, block_opened, put_beyond, outer_block, blocks_added, holder, placed_at, json_of, paste_step}
-use Rattle.lx_clip_laws.specs.Copies.{IsKept, slice_read, is_limit, IsReadBack, SlicesAreReadBack}
-use Rattle.lx_clip_laws.proofs.Growing.{Makes, makes_under, key_low, AreMade, nodes_make}
-use Rattle.lx_clip_laws.proofs.Covering.{slice_readable}
+use Rattle.lx_clip_laws.specs.Copies.{slice_read, is_limit, IsReadBack, SlicesAreReadBack}
+use Rattle.lx_clip_laws.proofs.Growing.{Makes, makes_under, key_low, AreMade, nodes_make, held_good}
+use Rattle.lx_clip_laws.proofs.Covering.{copy_readable}
 use Rattle.std.specs.Option.{option_or}
 use Rattle.lx_node.specs.Strings.{characters_of}
 use Rattle.lx_node.specs.declared.kind.Kind.{Kind}
@@ -52,13 +53,13 @@ use Rattle.lx_caret.proofs.Selected.{found_among}
 
 -- ---- read back
 
-pub slice_makes : (f : Forest) (s : Selection) (c : Forest) (w : Working) → IsKept f → sliced f s ≡ Some c → IsReady w
-    → Makes (AreMade (pieces_of c) w) (slice_read c w)
+pub slice_makes : (c : Forest) (w : Working) → IsCopy c → IsReady w → Makes (AreMade (pieces_of c) w) (slice_read c w)
 unfolding nodes_read
-slice_makes f s c w kept is ready =
-    let r = slice_readable f s c kept is in
+slice_makes c w copy ready =
+    let r = copy_readable c copy in
     subst (λ kind. Makes (AreMade (pieces_of c) w) (nodes_read (codes "/nodes") (array (trees_data c)) kind w)) (sym r.holds)
-    (makes_under (AreMade (pieces_of c) w) (codes "/nodes") (nodes_made (trees_data c) 0 r.kind w) (nodes_make c 0 r.kind w r.good ready))
+    (makes_under (AreMade (pieces_of c) w) (codes "/nodes") (nodes_made (trees_data c) 0 r.kind w)
+    (nodes_make c 0 r.kind w (held_good r.kind c r.held copy.back) ready))
 
 pub made_by : {A : Type 0} (P : A → Type 0) (r : Result A Cause) (a : A) → r ≡ Ok a → Makes P r → P a
 made_by P (Ok b) a e m = subst P (let same : b ≡ a = cc in same) m
@@ -81,9 +82,8 @@ inserts c w = refl
 
 pub slices_are_read_back : SlicesAreReadBack
 slices_are_read_back = record {
-  back = λ f s c w made kept is ready e. read_back c w made ready
-      (made_by (AreMade (pieces_of c) w) (slice_read c w) made e (slice_makes f s c w kept is ready));
-  refused = λ f s c w cause kept is ready e. refused_by (AreMade (pieces_of c) w) (slice_read c w) cause e (slice_makes f s c w kept is ready);
+  back = λ c w made copy ready e. read_back c w made ready (made_by (AreMade (pieces_of c) w) (slice_read c w) made e (slice_makes c w copy ready));
+  refused = λ c w cause copy ready e. refused_by (AreMade (pieces_of c) w) (slice_read c w) cause e (slice_makes c w copy ready);
   inserted = inserts;
 }
 
@@ -138,7 +138,7 @@ in_none g (x ∷ ks) k q among none = elim (cases_Bool (eqb x k)) [
 
 pub copied_made : (c : Forest) (w : Working) (made : Made) → IsCopied c w made → AreMade (pieces_of c) w made
 copied_made c w made copied =
-    made_by (AreMade (pieces_of c) w) (slice_read c w) made copied.read (slice_makes copied.tree copied.selection c w copied.kept copied.covered copied.ready)
+    made_by (AreMade (pieces_of c) w) (slice_read c w) made copied.read (slice_makes c w copied.copy copied.ready)
 
 -- the new trees hold no node that was there before
 pub old_outside : (c : Forest) (w : Working) (made : Made) (k q : ℕ) → AreMade (pieces_of c) w made → q < w.next_key → is_among k made.keys ≡ true
@@ -237,13 +237,13 @@ placed_same c w made inline v (k ∷ ks) m ready known is e =
 
 -- ---- the whole
 
-insert_pasted : (f : Forest) (s : Selection) (c : Forest) (w v : Working) → IsKept f → sliced f s ≡ Some c → IsReady w
-    → EachPoint (IsKnown w.forest) w.selection → insert_step (slice_data c) w ≡ Ok v → IsInserted c w v
-insert_pasted f s c w v kept is ready known e =
+insert_pasted : (c : Forest) (w v : Working) → IsCopy c → IsReady w → EachPoint (IsKnown w.forest) w.selection → insert_step (slice_data c) w ≡ Ok v
+    → IsInserted c w v
+insert_pasted c w v copy ready known e =
     let inline : Bool = begins_inline (trees_data c) in
     let first = after_tells {A = Made} {B = Working} (slice_read c w) (λ made. placed inline made.keys made.draft) v (sym (inserts c w) ∙ e) in
     let made : Made = first.0 in
-    let copied : IsCopied c w made = record { tree = f; selection = s; kept = kept; covered = is; ready = ready; read = first.1.0 } in
+    let copied : IsCopied c w made = record { copy = copy; ready = ready; read = first.1.0 } in
     let now = (nodes_read_path (known_making w.forest) (codes "/nodes") (array (trees_data c)) (holder inline) w made tt first.1.0).points known in
     record {
       made = made;
@@ -254,18 +254,17 @@ insert_pasted f s c w v kept is ready known e =
 lying_known : (f : Forest) (p : Point) → IsForest f → lies f p ≡ true → IsKnown f p
 lying_known f p h lying = attached_known f p.key h (both (is_attached f p.key) (lies_in f p) lying).0
 
-paste_pasted : (f : Forest) (s : Selection) (c : Forest) (text : List ℕ) (w v : Working) → IsKept f → sliced f s ≡ Some c → json_of text ≡ Ok (slice_data c)
-    → IsReady w → IsHeld may_hold w.forest → TextsAreShort w → paste_step text w ≡ Ok v
-    → IsPasted c w v
+paste_pasted : (c : Forest) (text : List ℕ) (w v : Working) → IsCopy c → json_of text ≡ Ok (slice_data c) → IsReady w → IsHeld may_hold w.forest
+    → TextsAreShort w → paste_step text w ≡ Ok v → IsPasted c w v
 unfolding paste_step
-paste_pasted f s c text w v kept is json ready held short e =
+paste_pasted c text w v copy json ready held short e =
     let first = after_tells (remove_text_step w) (λ u. after (json_of text) (λ d. insert_step d u)) v e in
     let u : Working = first.0 in
     let fit = remove_text_fits w u ready held short first.1.0 in
     let known =
     each_still (λ p. lies u.forest p ≡ true) (IsKnown u.forest) u.selection (λ p lying. lying_known u.forest p fit.ready.in_order lying) fit.lying in
     let step : insert_step (slice_data c) u ≡ Ok v = sym (ap (λ (r : Result Data Cause). after r (λ d. insert_step d u)) json) ∙ first.1.1 in
-    record { removed = u; first = first.1.0; inserted = insert_pasted f s c u v kept is fit.ready known step }
+    record { removed = u; first = first.1.0; inserted = insert_pasted c u v copy fit.ready known step }
 
 pub copies_are_pasted : CopiesArePasted
 copies_are_pasted = record {

@@ -1,44 +1,19 @@
 -- What is copied is read back: the nodes that a slice makes have the trees that were covered, but for their keys.
-use Rattle.std.specs.Prelude.{ℕ, ◌≡◌, Bool, true, false, codes, Some, Result, Ok, Err}
-use Rattle.std.specs.Str.{all_scalars}
+use Rattle.std.specs.Prelude.{ℕ, ◌≡◌, Bool, true, false, codes, Result, Ok, Err}
 use Rattle.serde_json.specs.Data.{array}
-use Rattle.lx_node.specs.Kinds.{may_hold}
-use Rattle.lx_node.specs.declared.fields.Fields.{Fields}
-use Rattle.lx_node.specs.declared.fields.Fields.TheVariants as fields
 use Rattle.lx_node.specs.declared.cause.Cause.{Cause}
 use Rattle.lx_node.specs.declared.cause.Cause.TheVariants.{StepLimit, TooLarge}
-use Rattle.lx_select.specs.declared.selection.Selection.{Selection}
-use Rattle.lx_forest.specs.Forest.{Forest, Label}
-use Rattle.lx_forest.specs.Lookups.{has, label_of, alone, trees_of, IsForest, IsHeld}
-use Rattle.lx_forest.specs.Suited.{IsSuited}
+use Rattle.lx_forest.specs.Forest.{Forest}
+use Rattle.lx_forest.specs.Lookups.{has, alone, trees_of}
 use Rattle.lx_draft.specs.Working.{Working}
 use Rattle.lx_draft.specs.Covering.{IsReady}
 use Rattle.lx_draft.specs.Faults.{after}
-use Rattle.lx_fields.specs.Storable.{IsStorable}
 use Rattle.lx_json.specs.Exporting.{trees_data}
 use Rattle.lx_json.specs.Back.{pieces_of}
 use Rattle.lx_json.specs.Nodes.{Made, nodes_read}
-use Rattle.lx_clip.specs.Slices.{sliced, slice_data}
+use Rattle.lx_clip.specs.Copies.{IsCopy}
+use Rattle.lx_clip.specs.Slices.{slice_data}
 use Rattle.lx_clip.specs.Pasting.{begins_inline, holder, placed, insert_step}
-
--- ---- a tree that is copied from
-
--- the characters of a text are Unicode scalar values
-abbrev pub is_scalar : Fields → Bool
-is_scalar (fields.Text text) = all_scalars text.text
-is_scalar other = true
-
--- fields such as code can hold: what the types of their texts and numbers bound
-pub record IsStored (l : Label) : Type 0 where
-  pub storable : IsStorable l.fields
-  pub scalar : is_scalar l.fields ≡ true
-
--- a forest in order, in which each node holds what it may and has fields of its kind
-pub record IsKept (f : Forest) : Type 0 where
-  pub order : IsForest f
-  pub held : IsHeld may_hold f
-  pub suited : IsSuited f
-  pub stored : (q : ℕ) (l : Label) → label_of f q ≡ Some l → IsStored l
 
 -- ---- a slice that is read
 
@@ -57,12 +32,10 @@ pub record IsReadBack (c : Forest) (w : Working) (made : Made) : Type 0 where
   pub same : pieces_of (trees_of made.draft.forest made.keys) ≡ pieces_of c
   pub stays : (q : ℕ) → has q w.forest ≡ true → alone q made.draft.forest ≡ alone q w.forest
 
--- A slice of a document, and any draft: it is read back, or a limit refuses it, so its form is always right. And a slice is put
--- in by reading it and placing what was made.
+-- A slice of a copy, and any draft: it is read back, or a limit refuses it, so its form is always right. And a slice is put in by
+-- reading it and placing what was made.
 pub record SlicesAreReadBack : Type 0 where
-  pub back : (f : Forest) (s : Selection) (c : Forest) (w : Working) (made : Made) → IsKept f → sliced f s ≡ Some c → IsReady w → slice_read c w ≡ Ok made
-      → IsReadBack c w made
-  pub refused : (f : Forest) (s : Selection) (c : Forest) (w : Working) (cause : Cause) → IsKept f → sliced f s ≡ Some c → IsReady w
-      → slice_read c w ≡ Err cause → is_limit cause ≡ true
+  pub back : (c : Forest) (w : Working) (made : Made) → IsCopy c → IsReady w → slice_read c w ≡ Ok made → IsReadBack c w made
+  pub refused : (c : Forest) (w : Working) (cause : Cause) → IsCopy c → IsReady w → slice_read c w ≡ Err cause → is_limit cause ≡ true
   pub inserted : (c : Forest) (w : Working)
       → insert_step (slice_data c) w ≡ after (slice_read c w) (λ made. placed (begins_inline (trees_data c)) made.keys made.draft)

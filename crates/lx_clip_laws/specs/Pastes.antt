@@ -1,8 +1,7 @@
 -- What is copied stands pasted: in the end the nodes of a slice have the trees that were covered.
-use Rattle.std.specs.Prelude.{ℕ, ◌≡◌, true, List, Some, Ok}
+use Rattle.std.specs.Prelude.{ℕ, ◌≡◌, true, List, Ok}
 use Rattle.lx_node.specs.Kinds.{may_hold}
 use Rattle.lx_node.specs.declared.cause.Point.{Point}
-use Rattle.lx_select.specs.declared.selection.Selection.{Selection}
 use Rattle.lx_forest.specs.Forest.{Forest}
 use Rattle.lx_forest.specs.Lookups.{has, trees_of, IsHeld}
 use Rattle.lx_draft.specs.Working.{Working, TextsAreShort}
@@ -11,16 +10,14 @@ use Rattle.lx_json.specs.Back.{pieces_of}
 use Rattle.lx_json.specs.Nodes.{Made}
 use Rattle.lx_caret.specs.Lying.{EachPoint}
 use Rattle.lx_caret.specs.Removing.{remove_text_step}
-use Rattle.lx_clip.specs.Slices.{sliced, slice_data}
+use Rattle.lx_clip.specs.Copies.{IsCopy}
+use Rattle.lx_clip.specs.Slices.{slice_data}
 use Rattle.lx_clip.specs.Pasting.{nodes_added, block_opened, put_beyond, insert_step, json_of, paste_step}
-use Rattle.lx_clip_laws.specs.Copies.{IsKept, slice_read}
+use Rattle.lx_clip_laws.specs.Copies.{slice_read}
 
--- a slice of what a selection covers of a tree, which a draft read
+-- a slice of a copy, which a draft read
 pub record IsCopied (c : Forest) (w : Working) (made : Made) : Type 0 where
-  pub tree : Forest
-  pub selection : Selection
-  pub kept : IsKept tree
-  pub covered : sliced tree selection ≡ Some c
+  pub copy : IsCopy c
   pub ready : IsReady w
   pub read : slice_read c w ≡ Ok made
 
@@ -50,9 +47,8 @@ pub record CopiesArePasted : Type 0 where
   pub beyond : (c : Forest) (w : Working) (made : Made) (outer : ℕ) (v : Working) → IsCopied c w made → put_beyond outer made.keys made.draft ≡ Ok v
       → pieces_of (trees_of v.forest made.keys) ≡ pieces_of c
   -- whichever way the step goes, where the points of a range are at nodes that were there before
-  pub inserted : (f : Forest) (s : Selection) (c : Forest) (w v : Working) → IsKept f → sliced f s ≡ Some c → IsReady w
-      → EachPoint (λ p. has p.key w.forest ≡ true) w.selection → insert_step (slice_data c) w ≡ Ok v → IsInserted c w v
+  pub inserted : (c : Forest) (w v : Working) → IsCopy c → IsReady w → EachPoint (λ p. has p.key w.forest ≡ true) w.selection
+      → insert_step (slice_data c) w ≡ Ok v → IsInserted c w v
   -- from a text that is the JSON of the slice, in place of what is selected
-  pub pasted : (f : Forest) (s : Selection) (c : Forest) (text : List ℕ) (w v : Working) → IsKept f → sliced f s ≡ Some c → json_of text ≡ Ok (slice_data c)
-      → IsReady w → IsHeld may_hold w.forest → TextsAreShort w → paste_step text w ≡ Ok v
-      → IsPasted c w v
+  pub pasted : (c : Forest) (text : List ℕ) (w v : Working) → IsCopy c → json_of text ≡ Ok (slice_data c) → IsReady w → IsHeld may_hold w.forest
+      → TextsAreShort w → paste_step text w ≡ Ok v → IsPasted c w v
