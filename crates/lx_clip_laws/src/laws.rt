@@ -4,8 +4,8 @@ ghost use Rattle.lx_clip_laws.specs.Between.{PastedStandBetween};
 ghost use Rattle.lx_clip_laws.specs.Copies.{SlicesAreReadBack};
 ghost use Rattle.lx_clip_laws.specs.Pastes.{CopiesArePasted};
 
-/// A slice of a document is read back: the new nodes have the trees that the selection covered, but for their keys. It is only
-/// refused by limits. This function does nothing, and its contract is these laws.
+/// A slice is read back: the new nodes have the trees that the selection covered, but for their keys. It is only refused by
+/// limits. `slice` says of what it covers that it is a copy. This function does nothing, and its contract is these laws.
 pub fn slices_are_read_back()
     ensures { SlicesAreReadBack }
 {}
