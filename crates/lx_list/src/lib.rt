@@ -5,7 +5,7 @@
 //! * `make_list`, `remove_list`, `indent` and `outdent` go by the selected lines.
 //! * `toggle_checked` goes by the block of the anchor, and `set_checked` by an item.
 //! * `paragraph_in_item` ends a list at an item without children.
-//! * `number` is no command: an editor calls it as a draft comes to rest.
+//! * `number` is no command: an editor calls it as a draft comes to rest. `number_all` does the same to any draft.
 #![tactic(auto)]
 
 mod changing;
@@ -29,4 +29,4 @@ pub use checking::{set_checked, toggle_checked};
 pub use commands::{indent, make_list, outdent, remove_list};
 pub use ending::paragraph_in_item;
 pub use laws::{lists_are_covered, numbered_stays_swept};
-pub use numbering::number;
+pub use numbering::{number, number_all};

@@ -133,12 +133,26 @@ fn number_standing(draft: &mut Draft) -> bool
 }
 
 /// Gives each item in the root's tree its number: that with which its list begins, and one more for each item before it
-/// whose first child isn't a list. Each item takes a count, and its fields are written, also where it has its number. Where
-/// there are no items it does nothing, and no node is looked at; where no list and no item is marked itself, only the keys
-/// that are marked are. So it relies on where the draft began: with a forest that was numbered.
+/// whose first child isn't a list. Each item takes a count, and its fields are written, also where it has its number. The
+/// whole tree is walked, so it relies on nothing; `number` does the same faster, where the draft began numbered.
 ///
 /// It is refused with `StepLimit` where 100,000 counts were taken, and with `TooLarge` where what was written would come
 /// above 16,777,216 scalar values. A draft on which it was refused is only fit to be dropped.
+#[tactic(auto, unfolding(crate::specs::Numbering::number_step), using(crate::proofs::Renumbered::renumbered))]
+pub fn number_all(alloc: Global, draft: &mut Draft) -> Result<(), Fault>
+    ensures does { Does (number_step draft.old) draft.new result }
+    ensures numbered { OnOk result (IsRenumbered draft.old.forest draft.new.forest) }
+{
+    ready(draft)?;
+    let lists = lists_of(alloc, draft.links())?;
+    number_lists(alloc, draft, &lists)
+}
+
+/// The same as `number_all`, and faster on a draft that began with a forest in which each item has its number. Where there
+/// are no items it does nothing, and no node is looked at; where no list and no item is marked itself, only the keys that
+/// are marked are. Otherwise it numbers all.
+///
+/// It is refused for the same causes as `number_all`.
 #[tactic(auto, unfolding(crate::specs::Numbering::number_step), using(crate::proofs::Renumbered::renumbered, crate::proofs::Itemless::number_itemless))]
 pub fn number(alloc: Global, draft: &mut Draft) -> Result<(), Fault>
     requires since { BeganNumbered draft.old }
@@ -152,6 +166,5 @@ pub fn number(alloc: Global, draft: &mut Draft) -> Result<(), Fault>
     if number_standing(draft) {
         return Ok(());
     }
-    let lists = lists_of(alloc, draft.links())?;
-    number_lists(alloc, draft, &lists)
+    number_all(alloc, draft)
 }
