@@ -1,6 +1,6 @@
 -- Where a forest has no items, numbering does nothing.
 use Rattle.std.proofs.Common.{◌≡◌, ◌∙◌, ℕ, Bool, true, false, List, [], ◌∷◌, Option, None, Some, Ok, refl, sym, ap, ap₂, arith, inl, inr}
-use Rattle.std.specs.Prelude.{option_map, is_some, filter}
+use Rattle.std.specs.Prelude.{option_map, filter}
 use Rattle.std.specs.Option.{option_or}
 use Rattle.std.proofs.lemmas.Bool.Decides.{eqb_tells}
 use Rattle.lx_trees.specs.Trees.{nil, tree}

@@ -7,8 +7,6 @@ use Rattle.lx_node.specs.declared.kind.Kind.TheVariants.{Item, List as ListKind}
 use Rattle.lx_node.specs.declared.kind.ListType.{ListType}
 use Rattle.lx_node.specs.declared.kind.ListType.TheVariants.{Bullet, Number, Check}
 use Rattle.lx_node.specs.declared.fields.Fields.{Fields}
-use Rattle.lx_node.specs.declared.fields.Fields.TheVariants as fields
-use Rattle.lx_node.specs.declared.fields.Extra.TheVariants as extra
 use Rattle.lx_node.specs.declared.cause.Cause.{Cause}
 use Rattle.lx_forest.specs.Lookups.{fields_of, parent_of, children_of, size_of, previous_of}
 use Rattle.lx_draft.specs.Working.{Working}

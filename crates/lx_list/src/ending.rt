@@ -1,11 +1,12 @@
 //! An item without children ends its list.
 
-ghost use Rattle.std.specs.Prelude.{◌≡◌, true, Some};
+ghost use Rattle.std.specs.Prelude.{◌≡◌, true, Some, OnOk};
 ghost use Rattle.lx_node.specs.Kinds as kinds;
 ghost use Rattle.lx_node.specs.OfKind.{IsOfKind};
 ghost use Rattle.lx_forest.specs.Lookups as lookups;
 ghost use Rattle.lx_edit.specs.Standing.{Does};
 ghost use Rattle.lx_blocks.specs.Blocks as blocks;
+ghost use Rattle.lx_caret.specs.Lying.{IsLying, TextsAreShort};
 ghost use Rattle.lx_list.specs.Ending as ending;
 ghost use Rattle.lx_list.specs.Ending.{paragraph_in_item_step};
 
@@ -71,21 +72,31 @@ fn end_list(alloc: Global, draft: &mut Draft, item: Key, list: Key) -> Result<()
     }
 }
 
-/// Ends its list at an item without children. Where the list is in another item, the item goes out of it as by
-/// `outdent`. Otherwise a new paragraph comes after the list in the place of the item, with the caret in it; and the items
-/// that came after the item go into a new list after the paragraph, with the kind and the fields of theirs. The
-/// selection's format stays. What may not be left empty goes with the item.
-///
-/// It is refused as the edits of a draft are: with `StepLimit` where 100,000 counts were taken, and with `TooLarge` where
-/// the new nodes would bring what was written above 16,777,216 scalar values.
+/// Ends its list at an item, where it is in one.
 #[tactic(auto, unfolding(crate::specs::Ending::paragraph_in_item_step), using(crate::proofs::Above::list_above))]
-pub fn paragraph_in_item(alloc: Global, draft: &mut Draft, item: Key) -> Result<(), Fault>
+fn end_at(alloc: Global, draft: &mut Draft, item: Key) -> Result<(), Fault>
     requires { blocks.is_at kinds.is_item draft.old.forest item ≡ true }
     ensures { Does (paragraph_in_item_step item draft.old) draft.new result }
 {
-    ready(draft)?;
     match draft.links().parent(item) {
         Some(list) => end_list(alloc, draft, item, list),
         None => Ok(()),
     }
+}
+
+/// Ends its list at an item without children. Where the list is in another item, the item goes out of it as by
+/// `outdent`. Otherwise a new paragraph comes after the list in the place of the item, with the caret in it; and the items
+/// that came after the item go into a new list after the paragraph, with the kind and the fields of theirs. The
+/// selection's format stays. What may not be left empty goes with the item. At an item of the root's tree it leaves a
+/// selection that lies in that tree, where it began with such a one.
+///
+/// It is refused as the edits of a draft are: with `StepLimit` where 100,000 counts were taken, and with `TooLarge` where
+/// the new nodes would bring what was written above 16,777,216 scalar values.
+pub fn paragraph_in_item(alloc: Global, draft: &mut Draft, item: Key) -> Result<(), Fault>
+    requires { blocks.is_at kinds.is_item draft.old.forest item ≡ true }
+    ensures does { Does (paragraph_in_item_step item draft.old) draft.new result }
+    ensures lying { OnOk result (TextsAreShort draft.old → IsLying draft.old → lookups.is_attached draft.old.forest item ≡ true → IsLying draft.new) }
+{
+    ready(draft)?;
+    end_at(alloc, draft, item)
 }

@@ -10,6 +10,7 @@ ghost use Rattle.lx_draft.specs.Covering.{IsReady};
 ghost use Rattle.lx_edit.specs.InTurn.{in_turn};
 ghost use Rattle.lx_edit.specs.Standing.{Does};
 ghost use Rattle.lx_blocks.specs.Blocks as blocks;
+ghost use Rattle.lx_caret.specs.Lying.{IsLying, TextsAreShort};
 ghost use Rattle.lx_list.specs.Numbering as numbering;
 ghost use Rattle.lx_list.specs.Numbering.{number_step};
 ghost use Rattle.lx_list.specs.Laws.{IsRenumbered};
@@ -132,20 +133,29 @@ fn number_standing(draft: &mut Draft) -> bool
     draft.rewrite(items, characters)
 }
 
+/// Gives the items of all lists their numbers.
+#[tactic(auto, unfolding(crate::specs::Numbering::number_step))]
+fn number_tree(alloc: Global, draft: &mut Draft) -> Result<(), Fault>
+    ensures { Does (number_step draft.old) draft.new result }
+{
+    let lists = lists_of(alloc, draft.links())?;
+    number_lists(alloc, draft, &lists)
+}
+
 /// Gives each item in the root's tree its number: that with which its list begins, and one more for each item before it
 /// whose first child isn't a list. Each item takes a count, and its fields are written, also where it has its number. The
-/// whole tree is walked, so it relies on nothing; `number` does the same faster, where the draft began numbered.
+/// whole tree is walked, so it relies on nothing; `number` does the same faster, where the draft began numbered. A
+/// selection that lies in the root's tree does so after it.
 ///
 /// It is refused with `StepLimit` where 100,000 counts were taken, and with `TooLarge` where what was written would come
 /// above 16,777,216 scalar values. A draft on which it was refused is only fit to be dropped.
-#[tactic(auto, unfolding(crate::specs::Numbering::number_step), using(crate::proofs::Renumbered::renumbered))]
 pub fn number_all(alloc: Global, draft: &mut Draft) -> Result<(), Fault>
     ensures does { Does (number_step draft.old) draft.new result }
     ensures numbered { OnOk result (IsRenumbered draft.old.forest draft.new.forest) }
+    ensures lying { OnOk result (TextsAreShort draft.old → IsLying draft.old → IsLying draft.new) }
 {
     ready(draft)?;
-    let lists = lists_of(alloc, draft.links())?;
-    number_lists(alloc, draft, &lists)
+    number_tree(alloc, draft)
 }
 
 /// The same as `number_all`, and faster on a draft that began with a forest in which each item has its number. Where there
@@ -153,11 +163,12 @@ pub fn number_all(alloc: Global, draft: &mut Draft) -> Result<(), Fault>
 /// are marked are. Otherwise it numbers all.
 ///
 /// It is refused for the same causes as `number_all`.
-#[tactic(auto, unfolding(crate::specs::Numbering::number_step), using(crate::proofs::Renumbered::renumbered, crate::proofs::Itemless::number_itemless))]
+#[tactic(auto, unfolding(crate::specs::Numbering::number_step), using(crate::proofs::Renumbers::number_lies, crate::proofs::Renumbered::renumbered, crate::proofs::Itemless::number_itemless))]
 pub fn number(alloc: Global, draft: &mut Draft) -> Result<(), Fault>
     requires since { BeganNumbered draft.old }
     ensures does { Does (number_step draft.old) draft.new result }
     ensures numbered { OnOk result (IsRenumbered draft.old.forest draft.new.forest) }
+    ensures lying { OnOk result (TextsAreShort draft.old → IsLying draft.old → IsLying draft.new) }
 {
     ready(draft)?;
     if draft.links().items() == 0 {
