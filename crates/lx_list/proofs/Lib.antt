@@ -4,7 +4,9 @@ pub mod Aside
 pub mod Checks
 pub mod Counted
 pub mod Covered
+pub mod Emptied
 pub mod Ended
+pub mod Itemized
 pub mod Itemless
 pub mod Kept
 pub mod Linewise

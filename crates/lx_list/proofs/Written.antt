@@ -62,7 +62,7 @@ lies_written f k now x q o point.Text is bare e = by_key (eqb q k) refl where
 
 -- ---- kinds
 
-known : (f : Forest) (k : ℕ) → unknown f k ≡ None → (l : Label) × (label_of f k ≡ Some l)
+pub known : (f : Forest) (k : ℕ) → unknown f k ≡ None → (l : Label) × (label_of f k ≡ Some l)
 known f k none = by_spot (spot f k) refl where
   by_spot : (o : Option (Spot Label)) → spot f k ≡ o → (l : Label) × (option_map (λ s. s.label) (spot f k) ≡ Some l)
   by_spot None is = absurd (grind (arith, none, is, is_some-spot f k))
