@@ -83,7 +83,8 @@ moved_lies d f k p0 i0 p i before x h there up at can place e =
     ap₂ ◌&&◌ (ap (is_in d (put_in p before k (take_out k f))) key ∙ is_in_moved d f k p x.key before h gone there can place parts.0)
     (lies_put (take_out k f) k p i y.key y.offset y.kind before gone can (lies_taken f k p0 i0 x.key x.offset x.kind h up at parts.1))
 
-placed_aside : (d : ℕ) (w v : Working) (k p index p0 i0 : ℕ) → Aside d w → is_in d w.forest p ≡ true → has k w.forest ≡ true → parent_of w.forest k ≡ Some p0
+placed_aside : (d : ℕ) (w v : Working) (k p index p0 i0 : ℕ) → Aside d w → is_in d w.forest p ≡ true → has k w.forest ≡ true
+    → parent_of w.forest k ≡ Some p0
     → index_of w.forest k ≡ Some i0
     → AreCovered w (node_taken k w) → put_step k p index (node_taken k w) ≡ Ok v → StaysAside d w v
 unfolding put_step
@@ -142,7 +143,8 @@ each_aside d parent (k ∷ ks) w v aside place e =
 -- ---- the tree aside put into the root's
 
 -- beside a node of one of the trees a tree can only be put where that node is in the root's
-place_there : (d : ℕ) (f : Forest) (other p : ℕ) → IsForest f → parent_of f other ≡ Some p → CanPut p d f → is_in d f other ≡ true → is_attached f other ≡ true
+place_there : (d : ℕ) (f : Forest) (other p : ℕ) → IsForest f → parent_of f other ≡ Some p → CanPut p d f → is_in d f other ≡ true
+    → is_attached f other ≡ true
 place_there d f other p h up can e =
     let apart : other ≢ d = λ same. let bad : None ≡ Some p = sym can.detached ∙ ap (parent_of f) (sym same) ∙ up in absurd (cc) in
     grind (arith, is_within-up f d other p h up apart, can.outside, e)
@@ -155,7 +157,8 @@ pub record Joined (d : ℕ) (w v : Working) : Type 0 where
   pub fit : Fit v
   pub attached : (q : ℕ) → is_in d w.forest q ≡ true → is_attached v.forest q ≡ true
 
-joined_at : (d p index : ℕ) (w v : Working) → Aside d w → (CanPut p d w.forest → is_attached w.forest p ≡ true) → put_step d p index w ≡ Ok v → Joined d w v
+joined_at : (d p index : ℕ) (w v : Working) → Aside d w → (CanPut p d w.forest → is_attached w.forest p ≡ true) → put_step d p index w ≡ Ok v
+    → Joined d w v
 unfolding put_step
 joined_at d p index w v aside leads e =
     let h = aside.ready.in_order in

@@ -1,5 +1,5 @@
 -- Children that go to another node leave a selection in the tree, and their own node empty.
-use Rattle.std.proofs.Common.{◌≡◌, ◌≢◌, ◌∙◌, ℕ, ◌+◌, ◌≤◌, Bool, true, false, cond, eqb, leb, ◌&&◌, min, List, [], ◌∷◌, length, Option, None, Some, Result, Ok, refl, sym, ap, ap₂, subst, arith}
+use Rattle.std.proofs.Common.{◌≡◌, ◌≢◌, ◌∙◌, ℕ, ◌+◌, Bool, true, false, cond, eqb, leb, ◌&&◌, min, List, [], ◌∷◌, length, Option, None, Some, Result, Ok, refl, sym, ap, ap₂, subst, arith}
 use Rattle.std.specs.Prelude.{slice_get, option_map}
 use Rattle.std.specs.Option.{option_or}
 use Rattle.std.proofs.lemmas.Bool.Decides.{eqb_tells}
@@ -24,7 +24,7 @@ use Rattle.lx_forest.proofs.Order.{IsForest-take_out}
 use Rattle.lx_forest.proofs.Within.{is_within-self}
 use Rattle.lx_links.specs.Faults.{unknown}
 use Rattle.lx_draft.specs.Working.{Working}
-use Rattle.lx_draft.specs.Selecting.{unlike, lies_in, is_counted_in}
+use Rattle.lx_draft.specs.Selecting.{unlike, is_counted_in}
 use Rattle.lx_draft.specs.Faults.{answer, after, over_counts, put_fault}
 use Rattle.lx_draft.specs.Steps.{node_placed, take_step, put_step}
 use Rattle.lx_draft.proofs.Covered.{answered}
@@ -35,7 +35,7 @@ use Rattle.lx_edit.specs.Edits.{moved_to_end, brought, children_moved, children_
 use Rattle.lx_blocks.specs.Blocks.{passes}
 use Rattle.lx_blocks.specs.Ranges.{lies}
 use Rattle.lx_blocks.proofs.Steps.{attached_there}
-use Rattle.lx_caret.specs.Lying.{EachPoint, IsLying}
+use Rattle.lx_caret.specs.Lying.{EachPoint}
 use Rattle.lx_caret.proofs.Lies.{both, spot_point, size_grown}
 use Rattle.lx_caret.proofs.Fit.{after_tells, Fit, Stays, stays_self, stays_then, puts}
 use Rattle.lx_caret.proofs.Moves.{stays_moved}

@@ -40,7 +40,8 @@ pub record Parted (w v : Working) (x : ℕ) : Type 0 where
   pub stays : Stays w v
   pub outside : (q : ℕ) → is_within w.forest x q ≡ false → is_within v.forest x q ≡ false
 
-rest_made : (x paragraph : ℕ) (items : List ℕ) (like : Option Label) (w v : Working) → Fit w → has x w.forest ≡ true → is_attached w.forest paragraph ≡ true
+rest_made : (x paragraph : ℕ) (items : List ℕ) (like : Option Label) (w v : Working) → Fit w → has x w.forest ≡ true
+    → is_attached w.forest paragraph ≡ true
     → is_within w.forest x paragraph ≡ false
     → after (new_like like w) (λ u. after (put_behind_step w.next_key paragraph u) (in_turn (moved_to_end w.next_key) items)) ≡ Ok v → Parted w v x
 rest_made x paragraph items like w v fit there place out e =
@@ -62,7 +63,8 @@ rest_made x paragraph items like w v fit there place out e =
           outside_each rest items put v x q behind.fit beside.attached two.1.1 (out_of_it rest (new_outside w x fit)) (out_of_it q so);
     }
 
-rest_parts : (x paragraph : ℕ) (items : List ℕ) (like : Option Label) (w v : Working) → Fit w → has x w.forest ≡ true → is_attached w.forest paragraph ≡ true
+rest_parts : (x paragraph : ℕ) (items : List ℕ) (like : Option Label) (w v : Working) → Fit w → has x w.forest ≡ true
+    → is_attached w.forest paragraph ≡ true
     → is_within w.forest x paragraph ≡ false → rest_parted paragraph items like w ≡ Ok v → Parted w v x
 rest_parts x paragraph [] like w v fit there place out e =
     let is : w ≡ v = cc in
@@ -102,7 +104,8 @@ paragraph_fits x list items like w m put left v fit there place out first second
     remove_fits x (caret_at (element_point key 0) left) v (stays_caret (element_point key 0) left parts.stays.fit lying).fit
     (caret_clear x key left (parts.outside key (outside key (new_outside w x fit)))) last
 
-behind_fits : (x list : ℕ) (w v : Working) → Fit w → is_attached w.forest x ≡ true → parent_of w.forest x ≡ Some list → paragraph_behind x list w ≡ Ok v → Fit v
+behind_fits : (x list : ℕ) (w v : Working) → Fit w → is_attached w.forest x ≡ true → parent_of w.forest x ≡ Some list
+    → paragraph_behind x list w ≡ Ok v → Fit v
 unfolding paragraph_behind
 behind_fits x list w v fit there up e =
     let key : ℕ = w.next_key in
@@ -130,7 +133,8 @@ ended_fits x list (Some above) w v fit there up over e = by_test (is_at is_item 
   by_test true e = out_of_fits x list above w v fit place e
   by_test false e = behind_fits x list w v fit there up e
 
-ended_in_fits : (x : ℕ) (list : Option ℕ) (w v : Working) → Fit w → is_attached w.forest x ≡ true → parent_of w.forest x ≡ list → ended_in x list w ≡ Ok v
+ended_in_fits : (x : ℕ) (list : Option ℕ) (w v : Working) → Fit w → is_attached w.forest x ≡ true → parent_of w.forest x ≡ list
+    → ended_in x list w ≡ Ok v
     → Fit v
 ended_in_fits x None w v fit there up e = let is : w ≡ v = cc in subst Fit is fit
 ended_in_fits x (Some list) w v fit there up e = ended_fits x list (parent_of w.forest list) w v fit there up refl e

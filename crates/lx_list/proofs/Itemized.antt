@@ -1,7 +1,6 @@
 -- Lines that become items, and lists that become lists of another type, leave a selection in the tree.
-use Rattle.std.proofs.Common.{◌≡◌, ◌≢◌, ◌∙◌, ℕ, Bool, true, false, cond, eqb, List, [], Option, None, Some, Result, Ok, refl, sym, ap, subst, arith, inl, inr}
+use Rattle.std.proofs.Common.{◌≡◌, ◌∙◌, ℕ, Bool, true, false, cond, Option, None, Some, Result, Ok, refl, sym, subst, arith}
 use Rattle.std.specs.List.{list_all}
-use Rattle.std.proofs.lemmas.Bool.Decides.{eqb_tells}
 use Rattle.lx_node.specs.Kinds.{is_inline, is_item}
 use Rattle.lx_node.specs.declared.kind.Kind.TheVariants.{Item, List as ListKind}
 use Rattle.lx_node.specs.declared.kind.ListType.{ListType}
@@ -30,7 +29,8 @@ use Rattle.lx_list.proofs.Emptied.{children_gone}
 use Rattle.lx_list.proofs.Linewise.{FitsAtLine, each_fits, each_line_lies}
 
 -- a node's children go to one in the tree, and it is removed
-given_fits : (from to : ℕ) (w v : Working) → Fit w → is_attached w.forest to ≡ true → after (children_step from to w) (remove_step from) ≡ Ok v → Fit v
+given_fits : (from to : ℕ) (w v : Working) → Fit w → is_attached w.forest to ≡ true → after (children_step from to w) (remove_step from) ≡ Ok v
+    → Fit v
 given_fits from to w v fit place e =
     let first = after_tells (children_step from to w) (remove_step from) v e in
     let gone = children_gone from to w first.0 fit place first.1.0 in
@@ -38,7 +38,8 @@ given_fits from to w v fit place e =
 
 -- ---- a line becomes an item
 
-item_made_fits : (type : ListType) (line list : ℕ) (w v : Working) → Fit w → is_attached w.forest list ≡ true → item_made type line list w ≡ Ok v → Fit v
+item_made_fits : (type : ListType) (line list : ℕ) (w v : Working) → Fit w → is_attached w.forest list ≡ true → item_made type line list w ≡ Ok v
+    → Fit v
 unfolding item_made
 item_made_fits type line list w v fit place e =
     let item : ℕ = w.next_key in
@@ -63,12 +64,14 @@ list_made_fits type line w v fit place e =
     item_made_fits type line list two.0 v (stays_before list line m two.0 new.fit two.1.0).fit beside.attached two.1.1
 
 -- what comes before a node of the tree is in it
-before_there : (f : Forest) (k s : ℕ) (p : Option ℕ) → IsForest f → parent_of f k ≡ p → is_attached f k ≡ true → previous_of f k ≡ Some s → is_attached f s ≡ true
+before_there : (f : Forest) (k s : ℕ) (p : Option ℕ) → IsForest f → parent_of f k ≡ p → is_attached f k ≡ true → previous_of f k ≡ Some s
+    → is_attached f s ≡ true
 before_there f k s (Some p) h up place before =
     is_attached-up f s p h (parent_of-previous f k s p h up before) ∙ sym (is_attached-up f k p h up) ∙ place
 before_there f k s None h up place before = absurd (grind (arith, up, before))
 
-itemized_fits : (type : ListType) (line : ℕ) (list : Option ℕ) (w v : Working) → Fit w → is_attached w.forest line ≡ true → previous_of w.forest line ≡ list
+itemized_fits : (type : ListType) (line : ℕ) (list : Option ℕ) (w v : Working) → Fit w → is_attached w.forest line ≡ true
+    → previous_of w.forest line ≡ list
     → itemized type line list w ≡ Ok v → Fit v
 itemized_fits type line None w v fit place before e = list_made_fits type line w v fit place e
 itemized_fits type line (Some list) w v fit place before e = by_test (is_at (is_list_of type) w.forest list) e where

@@ -21,7 +21,8 @@ there_fits step fits k w v fit e = by_test (is_attached w.forest k) refl e where
   by_test true there e = fits k w v fit there e
   by_test false out e = let is : w ≡ v = cc in subst Fit is fit
 
-pub each_fits : (step : ℕ → Working → Result Working Cause) → ((k : ℕ) (w v : Working) → Fit w → step k w ≡ Ok v → Fit v) → (ks : List ℕ) (w v : Working)
+pub each_fits : (step : ℕ → Working → Result Working Cause) → ((k : ℕ) (w v : Working) → Fit w → step k w ≡ Ok v → Fit v)
+    → (ks : List ℕ) (w v : Working)
     → Fit w → in_turn step ks w ≡ Ok v → Fit v
 unfolding in_turn
 each_fits step fits [] w v fit e = let is : w ≡ v = cc in subst Fit is fit

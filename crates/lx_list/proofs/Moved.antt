@@ -58,7 +58,8 @@ pub record PlacedBy (w v : Working) (k other : ℕ) : Type 0 where
   pub up : parent_of w.forest other ≡ Some parent
   pub put : put_step k parent at w ≡ Ok v
 
-behind_tells : (k other : ℕ) (p index : Option ℕ) (w v : Working) → parent_of w.forest other ≡ p → behind_at k other p index w ≡ Ok v → PlacedBy w v k other
+behind_tells : (k other : ℕ) (p index : Option ℕ) (w v : Working) → parent_of w.forest other ≡ p → behind_at k other p index w ≡ Ok v
+    → PlacedBy w v k other
 behind_tells k other (Some p) (Some index) w v up e = record { parent = p; at = index + 1; up = up; put = e }
 behind_tells k other None index w v up e = absurd (cc)
 behind_tells k other (Some p) None w v up e = absurd (cc)
@@ -67,7 +68,8 @@ pub placed_behind : (k other : ℕ) (w v : Working) → put_behind_step k other 
 unfolding put_behind_step
 placed_behind k other w v e = behind_tells k other (parent_of w.forest other) (index_of w.forest other) w v refl e
 
-before_tells : (k other : ℕ) (p index : Option ℕ) (w v : Working) → parent_of w.forest other ≡ p → before_at k other p index w ≡ Ok v → PlacedBy w v k other
+before_tells : (k other : ℕ) (p index : Option ℕ) (w v : Working) → parent_of w.forest other ≡ p → before_at k other p index w ≡ Ok v
+    → PlacedBy w v k other
 before_tells k other (Some p) (Some index) w v up e = record { parent = p; at = index; up = up; put = e }
 before_tells k other None index w v up e = absurd (cc)
 before_tells k other (Some p) None w v up e = absurd (cc)
@@ -137,7 +139,8 @@ outside_parent f x q p h up out = elim (eqb_tells q x) [
   | inr other ↦ sym (is_within-up f x q p h up other.1) ∙ out
 ]
 
-pub outside_new : (kind : Kind) (x : Fields) (w v : Working) (a q : ℕ) → Fit w → has a w.forest ≡ true → new_step kind x w ≡ Ok v → is_within w.forest a q ≡ false
+pub outside_new : (kind : Kind) (x : Fields) (w v : Working) (a q : ℕ) → Fit w → has a w.forest ≡ true → new_step kind x w ≡ Ok v
+    → is_within w.forest a q ≡ false
     → is_within v.forest a q ≡ false
 outside_new kind x w v a q fit there e out = grind (arith, new_within kind x w v a q fit e, not_next w a fit there, out)
 
@@ -146,13 +149,15 @@ pub outside_like : (l : Option Label) (w v : Working) (a q : ℕ) → Fit w → 
 outside_like None w v a q fit there e out = let is : w ≡ v = cc in ap (λ u. is_within u.forest a q) (sym is) ∙ out
 outside_like (Some l) w v a q fit there e out = outside_new l.kind l.fields w v a q fit there e out
 
-pub outside_behind : (k other : ℕ) (w v : Working) (a q : ℕ) → IsForest w.forest → put_behind_step k other w ≡ Ok v → is_within w.forest a other ≡ false
+pub outside_behind : (k other : ℕ) (w v : Working) (a q : ℕ) → IsForest w.forest → put_behind_step k other w ≡ Ok v
+    → is_within w.forest a other ≡ false
     → is_within w.forest a q ≡ false → is_within v.forest a q ≡ false
 outside_behind k other w v a q h e beside out =
     let by = placed_behind k other w v e in
     grind (arith, (placed k by.parent by.at w v h by.put).within a q, outside_parent w.forest a other by.parent h by.up beside, out)
 
-pub outside_moved : (parent k : ℕ) (w v : Working) (a q : ℕ) → IsForest w.forest → moved_to_end parent k w ≡ Ok v → is_within w.forest a parent ≡ false
+pub outside_moved : (parent k : ℕ) (w v : Working) (a q : ℕ) → IsForest w.forest → moved_to_end parent k w ≡ Ok v
+    → is_within w.forest a parent ≡ false
     → is_within w.forest a q ≡ false → is_within v.forest a q ≡ false
 unfolding moved_to_end
 outside_moved parent k w v a q h e beside out =
@@ -161,7 +166,8 @@ outside_moved parent k w v a q h e beside out =
     let taken : IsForest u.forest = subst IsForest (sym (take_leaves k w u first.1.0)) (IsForest-take_out k w.forest h) in
     grind (arith, (placed k parent (size_of u.forest parent) u v taken first.1.1).within a q, within_taken k w u a q h first.1.0, within_taken k w u a parent h first.1.0, beside, out)
 
-pub outside_each : (parent : ℕ) (ks : List ℕ) (w v : Working) (a q : ℕ) → Fit w → is_attached w.forest parent ≡ true → in_turn (moved_to_end parent) ks w ≡ Ok v
+pub outside_each : (parent : ℕ) (ks : List ℕ) (w v : Working) (a q : ℕ) → Fit w → is_attached w.forest parent ≡ true
+    → in_turn (moved_to_end parent) ks w ≡ Ok v
     → is_within w.forest a parent ≡ false → is_within w.forest a q ≡ false → is_within v.forest a q ≡ false
 unfolding in_turn
 outside_each parent [] w v a q fit place e beside out = let is : w ≡ v = cc in ap (λ u. is_within u.forest a q) (sym is) ∙ out

@@ -101,7 +101,8 @@ out_from_fits x list (Some outer) w v fit place up e = by_test (is_at is_item w.
   by_test true e = out_of_fits x list outer w v fit (sym (is_attached-up w.forest list outer fit.ready.in_order up) ∙ place) e
   by_test false e = let is : w ≡ v = cc in subst Fit is fit
 
-out_by_fits : (x : ℕ) (list : Option ℕ) (w v : Working) → Fit w → is_attached w.forest x ≡ true → parent_of w.forest x ≡ list → out_by x list w ≡ Ok v → Fit v
+out_by_fits : (x : ℕ) (list : Option ℕ) (w v : Working) → Fit w → is_attached w.forest x ≡ true → parent_of w.forest x ≡ list
+    → out_by x list w ≡ Ok v → Fit v
 out_by_fits x None w v fit there up e = let is : w ≡ v = cc in subst Fit is fit
 out_by_fits x (Some list) w v fit there up e =
     out_from_fits x list (parent_of w.forest list) w v fit (sym (is_attached-up w.forest x list fit.ready.in_order up) ∙ there) refl e

@@ -49,9 +49,11 @@ fn check(alloc: Global, draft: &mut Draft, item: Key, checked: bool) -> Result<(
     check_item(alloc, draft, item, Some(checked))
 }
 
-/// Gives an item a check mark, set or not. A selection that lies in the root's tree does so after it. It is refused where there is no such node and where it is no item, as
-/// `UnknownNode` and as `WrongKind` with its kind; and as `Draft::set` is, where 100,000 counts were taken, and where what
-/// was written would come above 16,777,216 scalar values.
+/// Gives an item a check mark, set or not. A selection that lies in the root's tree does so after it.
+///
+/// It is refused where there is no such node and where it is no item, as `UnknownNode` and as `WrongKind` with its kind; and
+/// as `Draft::set` is, where 100,000 counts were taken, and where what was written would come above 16,777,216 scalar
+/// values.
 pub fn set_checked(alloc: Global, draft: &mut Draft, item: Key, checked: bool) -> Result<(), Fault>
     ensures does { Does (set_checked_step item checked draft.old) draft.new result }
     ensures lying { OnOk result (TextsAreShort draft.old → IsLying draft.old → IsLying draft.new) }

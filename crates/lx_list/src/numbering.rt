@@ -160,7 +160,7 @@ pub fn number_all(alloc: Global, draft: &mut Draft) -> Result<(), Fault>
 
 /// The same as `number_all`, and faster on a draft that began with a forest in which each item has its number. Where there
 /// are no items it does nothing, and no node is looked at; where no list and no item is marked itself, only the keys that
-/// are marked are. Otherwise it numbers all.
+/// are marked are. Otherwise it is `number_all`.
 ///
 /// It is refused for the same causes as `number_all`.
 #[tactic(auto, unfolding(crate::specs::Numbering::number_step), using(crate::proofs::Renumbers::number_lies, crate::proofs::Renumbered::renumbered, crate::proofs::Itemless::number_itemless))]
