@@ -1,6 +1,7 @@
 pub mod Above
 pub mod Alike
 pub mod Aside
+pub mod Broken
 pub mod Checks
 pub mod Counted
 pub mod Covered

@@ -28,5 +28,7 @@ mod standing;
 pub use checking::{set_checked, toggle_checked};
 pub use commands::{indent, make_list, outdent, remove_list};
 pub use ending::paragraph_in_item;
-pub use laws::{list_selections_lie, lists_are_covered, numbered_stays_swept};
+pub use laws::{
+    empty_items_are_there, list_selections_lie, lists_are_covered, numbered_stays_swept,
+};
 pub use numbering::{number, number_all};
