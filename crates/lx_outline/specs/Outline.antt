@@ -64,6 +64,11 @@ abbrev pub entries_among : Forest → List ℕ → List Entry
 entries_among f [] = []
 entries_among f (q ∷ qs) = with_entry (option_map (entry_of q) (heading_at f q)) (entries_among f qs)
 
+-- the headings that are kept for keys, in the order of the keys
+abbrev pub entries_kept : List (ℕ × Heading) → List ℕ → List Entry
+entries_kept headings [] = []
+entries_kept headings (q ∷ qs) = with_entry (option_map (entry_of q) (lookup (nat_eq q) headings)) (entries_kept headings qs)
+
 -- ---- the outline
 
 -- how many characters a node's text has

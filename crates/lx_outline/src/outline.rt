@@ -41,7 +41,7 @@ impl Outline {
     ghost use Rattle.lx_forest.specs.Lookups.{preorder};
     ghost use Rattle.lx_forest.specs.Weights.{weight};
     ghost use Rattle.lx_outline.specs.Events.{AreEvents};
-    ghost use Rattle.lx_outline.specs.Outline.{IsOutlineOf, new_outline, characters_in, entry_of, with_entry, entries_among};
+    ghost use Rattle.lx_outline.specs.Outline.{IsOutlineOf, new_outline, characters_in, entry_of, with_entry, entries_kept, entries_among};
     ghost use Rattle.lx_outline.specs.Reading.{most_reads};
 
     /// The outline of the root alone. Later headings take memory from the allocator.
@@ -120,10 +120,11 @@ impl Outline {
         Ok(())
     }
 
-    /// The headings in document order, which is that of the state whose outline this is.
+    /// The headings in document order. Their levels and texts are those that the outline keeps: of the state only the order of
+    /// its nodes is read. Where this is the outline of that state, they are the headings of its tree.
     pub fn entries(&self, state: &State) -> Result<Vec<Entry>, NoMemory>
-        requires { IsOutlineOf self.now state.now.links }
-        ensures { IfOk result (λ entries. entries.items ≡ entries_among state.now.links (preorder state.now.links)) }
+        ensures kept { IfOk result (λ entries. entries.items ≡ entries_kept self.now.headings (preorder state.now.links)) }
+        ensures told { IsOutlineOf self.now state.now.links → IfOk result (λ entries. entries.items ≡ entries_among state.now.links (preorder state.now.links)) }
     {
         let mut entries = Vec::new(self.alloc);
         let mut at = first_in(&state.links);
