@@ -3,6 +3,7 @@ pub mod Along
 pub mod Applied
 pub mod Ascending
 pub mod ByKeys
+pub mod Covers
 pub mod Deciding
 pub mod FewReads
 pub mod Followed

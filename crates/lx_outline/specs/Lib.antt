@@ -1,3 +1,4 @@
+pub mod Covers
 pub mod Events
 pub mod Outline
 pub mod Parts

@@ -22,12 +22,9 @@ pub record AreGone (old new : Forest) (keys : List ℕ) : Type 0 where
   pub each : (q : ℕ) → is_among q keys ≡ true → IsDestroyed old new q
   pub closed : (q p : ℕ) → parent_of old q ≡ Some p → has q new ≡ false → is_among p keys ≡ true → is_among q keys ≡ true
 
--- the node is gone, and its former parent is still there
-pub record HasLeft (old new : Forest) (q : ℕ) : Type 0 where
-  pub parent : ℕ
-  pub parent_is : parent_of old q ≡ Some parent
-  pub stays : has parent new ≡ true
-  pub gone : has q new ≡ false
+-- of what was right below a node all that is gone is among the keys
+abbrev pub HasLost : Forest → Forest → ℕ → List ℕ → Type 0
+HasLost old new p keys = (q : ℕ) → parent_of old q ≡ Some p → has q new ≡ false → is_among q keys ≡ true
 
 -- what was among the keys still is
 abbrev pub Grows : List ℕ → List ℕ → Type 0

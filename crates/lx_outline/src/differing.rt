@@ -2,10 +2,10 @@
 
 ghost use Rattle.std.specs.Prelude.{◌≡◌, ◌↔◌, IsTrue};
 ghost use Rattle.lx_forest.specs.Lookups.{children_of};
-ghost use Rattle.lx_forest.specs.Covered.{AreCovered};
 ghost use Rattle.lx_marks.specs.Marks as marked;
+ghost use Rattle.lx_outline.specs.Covers.{IsCovered};
 ghost use Rattle.lx_outline.specs.Events.{IsCreated, IsUpdated};
-ghost use Rattle.lx_outline.specs.Parts.{IsSameNode, HasLeft};
+ghost use Rattle.lx_outline.specs.Parts.{IsSameNode};
 
 use lx_links::{Children, Links};
 use lx_marks::Marks;
@@ -77,7 +77,7 @@ fn is_updated(before: &Links, after: &Links, key: Key) -> bool
 }
 
 /// Whether a node is marked itself.
-fn is_touched(marks: &Marks, key: Key) -> bool
+pub(crate) fn is_touched(marks: &Marks, key: Key) -> bool
     ensures { result ≡ marked.is_touched marks.now key }
 {
     marks.has_leaf(key) || matches!(marks.element(key), Some(true))
@@ -86,21 +86,11 @@ fn is_touched(marks: &Marks, key: Key) -> bool
 /// The same as `is_updated`, where marks cover the two trees: a node that isn't marked itself is the same in both, so that its
 /// children aren't looked at.
 pub(crate) fn is_changed(before: &Links, after: &Links, marks: &Marks, key: Key) -> bool
-    requires covered { AreCovered before.now after.now (record { touched = marked.is_touched marks.now; noted = marked.is_noted marks.now }) }
+    requires covered { IsCovered before.now after.now marks.now }
     ensures { IsTrue result ↔ IsUpdated before.now after.now key }
 {
     if !is_touched(marks, key) {
         return false;
     }
     is_updated(before, after, key)
-}
-
-/// Whether a node is gone whose parent is still there.
-pub(crate) fn has_left(before: &Links, after: &Links, key: Key) -> bool
-    ensures { IsTrue result ↔ HasLeft before.now after.now key }
-{
-    match before.parent(key) {
-        Some(parent) => after.has(parent) && !after.has(key),
-        None => false,
-    }
 }
