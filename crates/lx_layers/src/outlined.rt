@@ -74,6 +74,7 @@ impl Outlined {
 
     /// Takes what a commit changed: it is then the outline of the state after it, and the events are those of the commit. Once
     /// memory has run out it is only fit to be dropped.
+    #[tactic(auto, using(lx_outline::proofs::Covers::covered_widely))]
     pub(crate) fn follow(
         &mut self,
         alloc: Global,
