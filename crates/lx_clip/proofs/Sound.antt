@@ -31,10 +31,9 @@ use Rattle.lx_draft.proofs.Put.{both_none}
 use Rattle.lx_edit.specs.Edits.{text_point, element_point, end_in}
 use Rattle.lx_blocks.specs.Ranges.{lies, caret_at}
 use Rattle.lx_caret.specs.Inserting.{place_behind}
-
 use Rattle.lx_caret.proofs.Lies.{full, end_in as end_of_text}
 use Rattle.lx_caret.proofs.Fit.{each_moved, each_all, after_tells, Fit, puts, attached_put}
-use Rattle.lx_caret.proofs.Short.{same-short}
+use Rattle.lx_draft.proofs.Short.{same-short}
 use Rattle.lx_caret.proofs.Moves.{was_put}
 use Rattle.lx_caret.proofs.Parents.{kind_known, above_attached}
 use Rattle.lx_caret.proofs.Selected.{last_among}

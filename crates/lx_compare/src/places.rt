@@ -33,7 +33,7 @@ impl Model for Places {
 }
 
 impl Places {
-    ghost use Rattle.std.specs.Prelude.{Some, option_map};
+    ghost use Rattle.std.specs.Prelude.{None, Some, option_map};
     ghost use Rattle.lx_compare.specs.Places.{IsOutside, IsAsBefore, IsJoined};
 
     /// No keys at all. Later ones take memory from the allocator.
@@ -72,6 +72,14 @@ impl Places {
     {
         self.keys.clear();
         self.is_anywhere = false;
+    }
+
+    /// Forgets at which keys: the trees may differ anywhere.
+    pub fn lose(&mut self)
+        ensures { self.new ≡ None }
+    {
+        self.keys.clear();
+        self.is_anywhere = true;
     }
 
     /// Adds those of the others. Where there is no memory for them, or they are too many, that is anywhere.

@@ -277,7 +277,7 @@ impl Editor {
         self.history
             .stray(&self.state.links, &frozen.state.links, marks);
         self.history
-            .note(&self.state, entry, &frozen.marks, how.tags, how.moment);
+            .note_strayed(&self.state, entry, &frozen.marks, how.tags, how.moment);
         self.state = frozen.state;
         self.next_key = frozen.next_key;
         forget(&mut self.pending);

@@ -1,6 +1,6 @@
 //! What commits do to a history.
 
-ghost use Rattle.std.specs.Prelude.{◌≡◌, ◌+◌, ◌&&◌, nat_lt, if◌then◌else◌};
+ghost use Rattle.std.specs.Prelude.{◌≡◌, ◌+◌, ◌&&◌, None, nat_lt, if◌then◌else◌};
 ghost use Rattle.lx_history.specs.Changes as changes;
 ghost use Rattle.lx_history.specs.Kept.{IsPrepared};
 ghost use Rattle.lx_history.specs.Told.{IsAway};
@@ -42,10 +42,37 @@ impl History {
     }
 
     /// Notes a commit that led from one state to the other at a time, in milliseconds. The marks say what the update
-    /// marked, and the tags what was asked for the commit. It can't fail: where there is no memory for the keys at
-    /// which an entry may differ, it may differ anywhere.
-    #[tactic(auto, unfolding(crate::specs::History::noted, crate::specs::History::action_of))]
+    /// marked, and the tags what was asked for the commit. It can't fail. Nobody says where the trees differ, so an entry
+    /// may differ anywhere from the one beside it: `note_strayed` is for who has told it by `stray`.
     pub fn note(&mut self, before: &State, after: State, marks: &Marks, tags: Tags, moment: u64)
+        requires { IsPrepared self.old }
+        ensures noted { self.new.history ≡ noted before.now after marks.now tags moment self.old.history }
+        ensures strays { IsAway self.new.history.current self.new.strays after.links }
+    {
+        self.lose_strays();
+        self.note_strayed(before, after, marks, tags, moment);
+    }
+
+    /// From here on the committed tree may differ from the current state's anywhere.
+    fn lose_strays(&mut self)
+        ensures same { self.new.history ≡ self.old.history }
+        ensures prepared { IsPrepared self.old → IsPrepared self.new }
+        ensures lost { self.new.strays ≡ None }
+    {
+        self.strays.lose();
+    }
+
+    /// Notes a commit as `note` does, where `stray` was told of all commits since the last one that was noted. Where there
+    /// was no memory for the keys at which an entry may differ, it may differ anywhere.
+    #[tactic(auto, unfolding(crate::specs::History::noted, crate::specs::History::action_of))]
+    pub fn note_strayed(
+        &mut self,
+        before: &State,
+        after: State,
+        marks: &Marks,
+        tags: Tags,
+        moment: u64,
+    )
         requires prepared { IsPrepared self.old }
         requires strays { IsAway self.old.history.current self.old.strays after.links }
         ensures noted { self.new.history ≡ noted before.now after marks.now tags moment self.old.history }

@@ -15,7 +15,7 @@ use Rattle.lx_forest.proofs.Order.{IsForest-take_out}
 use Rattle.lx_forest.proofs.Walks.{is_attached-up}
 use Rattle.lx_forest.proofs.Within.{is_within-self, is_within-up, is_within-take_out, is_within-put_in}
 use Rattle.lx_links.specs.Faults.{detach_fault}
-use Rattle.lx_draft.specs.Working.{Working}
+use Rattle.lx_draft.specs.Working.{Working, TextsAreShort}
 use Rattle.lx_draft.specs.Covering.{IsReady, AreCovered}
 use Rattle.lx_draft.specs.Selecting.{lies_in}
 use Rattle.lx_draft.specs.Faults.{answer, over_counts, put_fault}
@@ -27,11 +27,11 @@ use Rattle.lx_draft.proofs.Put.{both_none}
 use Rattle.lx_edit.specs.InTurn.{in_turn}
 use Rattle.lx_edit.specs.Edits.{moved_to_end}
 use Rattle.lx_blocks.specs.Ranges.{lies}
-use Rattle.lx_caret.specs.Lying.{EachPoint, TextsAreShort}
+use Rattle.lx_caret.specs.Lying.{EachPoint}
 use Rattle.lx_caret.proofs.Lies.{both, lies_taken, lies_put}
 use Rattle.lx_caret.proofs.Fit.{each_moved, each_still, after_tells, Fit, puts, key_of_put}
 use Rattle.lx_caret.proofs.Moves.{key_of_take, stands, taken_below}
-use Rattle.lx_caret.proofs.Short.{same-short}
+use Rattle.lx_draft.proofs.Short.{same-short}
 use Rattle.lx_list.proofs.Moved.{placed_behind}
 
 -- a node is in the root's tree, or in that of this one

@@ -3,10 +3,10 @@ use Rattle.std.proofs.Common.{◌≡◌, ℕ, ◌+◌, cond, List, [], ◌∷◌
 use Rattle.std.specs.Prelude.{filter}
 use Rattle.lx_node.specs.Kinds.{may_hold, is_list}
 use Rattle.lx_forest.specs.Lookups.{fields_of, children_of, preorder, IsHeld}
-use Rattle.lx_draft.specs.Working.{Working}
+use Rattle.lx_draft.specs.Working.{Working, TextsAreShort}
 use Rattle.lx_draft.specs.Covering.{IsReady}
 use Rattle.lx_blocks.specs.Blocks.{is_at}
-use Rattle.lx_caret.specs.Lying.{IsLying, TextsAreShort}
+use Rattle.lx_caret.specs.Lying.{IsLying}
 use Rattle.lx_caret.proofs.Fit.{after_tells, Fit}
 use Rattle.lx_list.specs.Nesting.{is_nesting}
 use Rattle.lx_list.specs.Making.{with_extra, numbered, number_item}

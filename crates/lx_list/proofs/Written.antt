@@ -1,5 +1,5 @@
 -- Fields that are written leave every point of a range in the tree.
-use Rattle.std.proofs.Common.{◌≡◌, ◌∙◌, ℕ, Bool, true, false, cond, eqb, leb, ◌&&◌, length, Option, None, Some, refl, sym, ap, ap₂, subst, arith}
+use Rattle.std.proofs.Common.{◌+◌, ◌≡◌, ◌∙◌, ℕ, Bool, true, false, cond, eqb, leb, ◌&&◌, length, Option, None, Some, refl, sym, ap, ap₂, subst, arith}
 use Rattle.std.specs.Prelude.{option_map}
 use Rattle.std.specs.Option.{option_or}
 use Rattle.std.proofs.lemmas.Bool.Decides.{eqb_tells}
@@ -36,7 +36,8 @@ use Rattle.lx_blocks.specs.Ranges.{lies}
 use Rattle.lx_caret.specs.Lying.{EachPoint}
 use Rattle.lx_caret.proofs.Lies.{both, is_place_in, spot_point}
 use Rattle.lx_caret.proofs.Fit.{each_still, Stays, Staying, stays_ok, stays_self, stays_set}
-use Rattle.lx_caret.proofs.Short.{fields-short, written-short}
+use Rattle.lx_draft.proofs.Short.{fields-short}
+use Rattle.lx_caret.proofs.Short.{written-short}
 use Rattle.lx_list.specs.Making.{changed, set_changed, change_step}
 
 -- ---- points
@@ -114,7 +115,7 @@ stays_written k x bare still w v fit e =
       fit = record {
         ready = all.ready;
         held = IsHeld-with_fields may_hold w.forest fit.ready.in_order fit.held k x;
-        short = written-short k x (characters_of x) (set_points k x) w (fields-short w.written x) fit.short;
+        short = written-short k x (characters_of x) (set_points k x) w (fields-short (w.written + characters_of x) x (omega arith)) fit.short;
         lying = subst (λ s. EachPoint (λ p. lies (with_fields k x w.forest) p ≡ true) s) (sym (still w.selection))
             (each_still (λ p. lies w.forest p ≡ true) (λ p. lies (with_fields k x w.forest) p ≡ true) w.selection (λ p so.
             let parts = both (is_attached w.forest p.key) (lies_in w.forest p) so in

@@ -5,7 +5,7 @@ ghost use Rattle.lx_node.specs.Kinds as kinds;
 ghost use Rattle.lx_forest.specs.Lookups as lookups;
 ghost use Rattle.lx_draft.specs.Selecting.{unlike};
 ghost use Rattle.lx_edit.specs.Standing.{Does};
-ghost use Rattle.lx_caret.specs.Lying.{IsLying, TextsAreShort};
+ghost use Rattle.lx_caret.specs.Lying.{IsLying};
 ghost use Rattle.lx_list.specs.Checking as checking;
 ghost use Rattle.lx_list.specs.Checking.{set_checked_step, toggle_checked_step};
 
@@ -56,7 +56,7 @@ fn check(alloc: Global, draft: &mut Draft, item: Key, checked: bool) -> Result<(
 /// values.
 pub fn set_checked(alloc: Global, draft: &mut Draft, item: Key, checked: bool) -> Result<(), Fault>
     ensures does { Does (set_checked_step item checked draft.old) draft.new result }
-    ensures lying { OnOk result (TextsAreShort draft.old → IsLying draft.old → IsLying draft.new) }
+    ensures lying { OnOk result (IsLying draft.old → IsLying draft.new) }
 {
     ready(draft)?;
     check(alloc, draft, item, checked)
@@ -92,7 +92,7 @@ fn toggle(alloc: Global, draft: &mut Draft) -> Result<(), Fault>
 /// that block.
 pub fn toggle_checked(alloc: Global, draft: &mut Draft) -> Result<(), Fault>
     ensures does { Does (toggle_checked_step draft.old) draft.new result }
-    ensures lying { OnOk result (TextsAreShort draft.old → IsLying draft.new) }
+    ensures lying { OnOk result (IsLying draft.new) }
 {
     ready(draft)?;
     toggle(alloc, draft)

@@ -6,7 +6,7 @@ ghost use Rattle.lx_node.specs.OfKind.{IsOfKind};
 ghost use Rattle.lx_forest.specs.Lookups as lookups;
 ghost use Rattle.lx_edit.specs.Standing.{Does};
 ghost use Rattle.lx_blocks.specs.Blocks as blocks;
-ghost use Rattle.lx_caret.specs.Lying.{IsLying, TextsAreShort};
+ghost use Rattle.lx_caret.specs.Lying.{IsLying};
 ghost use Rattle.lx_list.specs.Ending as ending;
 ghost use Rattle.lx_list.specs.Ending.{paragraph_in_item_step};
 
@@ -95,7 +95,7 @@ fn end_at(alloc: Global, draft: &mut Draft, item: Key) -> Result<(), Fault>
 pub fn paragraph_in_item(alloc: Global, draft: &mut Draft, item: Key) -> Result<(), Fault>
     requires { blocks.is_at kinds.is_item draft.old.forest item ≡ true }
     ensures does { Does (paragraph_in_item_step item draft.old) draft.new result }
-    ensures lying { OnOk result (TextsAreShort draft.old → IsLying draft.old → lookups.is_attached draft.old.forest item ≡ true → IsLying draft.new) }
+    ensures lying { OnOk result (IsLying draft.old → lookups.is_attached draft.old.forest item ≡ true → IsLying draft.new) }
 {
     ready(draft)?;
     end_at(alloc, draft, item)

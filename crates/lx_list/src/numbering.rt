@@ -10,7 +10,7 @@ ghost use Rattle.lx_draft.specs.Covering.{IsReady};
 ghost use Rattle.lx_edit.specs.InTurn.{in_turn};
 ghost use Rattle.lx_edit.specs.Standing.{Does};
 ghost use Rattle.lx_blocks.specs.Blocks as blocks;
-ghost use Rattle.lx_caret.specs.Lying.{IsLying, TextsAreShort};
+ghost use Rattle.lx_caret.specs.Lying.{IsLying};
 ghost use Rattle.lx_list.specs.Numbering as numbering;
 ghost use Rattle.lx_list.specs.Numbering.{number_step};
 ghost use Rattle.lx_list.specs.Laws.{IsRenumbered};
@@ -152,7 +152,7 @@ fn number_tree(alloc: Global, draft: &mut Draft) -> Result<(), Fault>
 pub fn number_all(alloc: Global, draft: &mut Draft) -> Result<(), Fault>
     ensures does { Does (number_step draft.old) draft.new result }
     ensures numbered { OnOk result (IsRenumbered draft.old.forest draft.new.forest) }
-    ensures lying { OnOk result (TextsAreShort draft.old → IsLying draft.old → IsLying draft.new) }
+    ensures lying { OnOk result (IsLying draft.old → IsLying draft.new) }
 {
     ready(draft)?;
     number_tree(alloc, draft)
@@ -168,7 +168,7 @@ pub fn number(alloc: Global, draft: &mut Draft) -> Result<(), Fault>
     requires since { BeganNumbered draft.old }
     ensures does { Does (number_step draft.old) draft.new result }
     ensures numbered { OnOk result (IsRenumbered draft.old.forest draft.new.forest) }
-    ensures lying { OnOk result (TextsAreShort draft.old → IsLying draft.old → IsLying draft.new) }
+    ensures lying { OnOk result (IsLying draft.old → IsLying draft.new) }
 {
     ready(draft)?;
     if draft.links().items() == 0 {

@@ -5,4 +5,4 @@ use Rattle.lx_list.proofs.checking.toggle_checked.Goals as goal
 pub returns-clause-lying : goal.returns-clause-lying
 returns-clause-lying c =
     does_lie _ _ c.toggle.result
-    (λ e short. lies-toggle_checked c.args.draft.now c.toggle.new.draft c.in_ok-ready.ensures.ready c.ready.ensures.held short e) c.toggle.ensures
+    (λ e. lies-toggle_checked c.args.draft.now c.toggle.new.draft c.in_ok-ready.ensures.ready c.ready.ensures.held c.ready.ensures.short e) c.toggle.ensures

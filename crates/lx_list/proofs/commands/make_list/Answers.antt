@@ -7,5 +7,5 @@ pub returns-clause-lying : goal.returns-clause-lying
 unfolding make_list_step
 returns-clause-lying c =
     does_lie _ _ c.edit_lines.result
-    (λ e short. lies-make_list c.args.list_type c.args.draft.now c.edit_lines.new.draft c.in_ok-ready.ensures.ready c.ready.ensures.held short e)
+    (λ e. lies-make_list c.args.list_type c.args.draft.now c.edit_lines.new.draft c.in_ok-ready.ensures.ready c.ready.ensures.held c.ready.ensures.short e)
     c.edit_lines.ensures

@@ -7,4 +7,4 @@ pub returns-clause-lying : goal.returns-clause-lying
 unfolding outdent_step
 returns-clause-lying c =
     does_lie _ _ c.edit_lines.result
-    (λ e short. lies-outdent c.args.draft.now c.edit_lines.new.draft c.in_ok-ready.ensures.ready c.ready.ensures.held short e) c.edit_lines.ensures
+    (λ e. lies-outdent c.args.draft.now c.edit_lines.new.draft c.in_ok-ready.ensures.ready c.ready.ensures.held c.ready.ensures.short e) c.edit_lines.ensures

@@ -12,4 +12,5 @@ returns-clause-numbered c =
 pub returns-clause-lying : goal.returns-clause-lying
 returns-clause-lying c =
     does_lie _ _ c.number_tree.result
-    (λ e. number_lies c.args.draft.now c.number_tree.new.draft c.in_ok-ready.ensures.ready c.in_ok-ready.ensures.held e) c.number_tree.ensures
+    (λ e. number_lies c.args.draft.now c.number_tree.new.draft c.in_ok-ready.ensures.ready c.in_ok-ready.ensures.held e
+    c.in_ok-ready.ensures.short) c.number_tree.ensures

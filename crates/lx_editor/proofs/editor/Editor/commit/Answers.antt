@@ -28,11 +28,11 @@ module _ (c : After-forget) where
   abbrev left : Left
   left = left_of e.rules c.into_inner-frozen.result
 
-  is_recorded : c.note.new.self.history ≡ recorded e c.args.how left
+  is_recorded : c.note_strayed.new.self.history ≡ recorded e c.args.how left
   is_recorded =
       recorded_same (state_with e.tree e.selection) (state_with left.tree left.selection) c.in_ok-entry.entry left.marks c.args.how e.history
-      c.stray.new.self.history c.note.new.self.history
-      c.in_ok-entry.ensures.links c.in_ok-entry.ensures.selection (c.stray.ensures.same ∙ c.prepare.ensures.same) c.note.ensures.noted
+      c.stray.new.self.history c.note_strayed.new.self.history
+      c.in_ok-entry.ensures.links c.in_ok-entry.ensures.selection (c.stray.ensures.same ∙ c.prepare.ensures.same) c.note_strayed.ensures.noted
 
   leads : Leads e.view c.args.batch.ops c.follow.new.view.tree
   leads = subst (λ ops. Leads e.view ops c.follow.new.view.tree) c.in_ok-ops.ensures c.in_ok-follow.ensures.leads
@@ -40,13 +40,13 @@ module _ (c : After-forget) where
   abbrev with : Option (Box Pending) → Editor
   with p =
       record (made e c.args.how left c.args.batch (may (goal.at.After-forget c).After-prepare) c.self.invariant.valid c.follow.new.view.tree leads
-      c.note.new.self.history is_recorded) { pending = unboxed p }
+      c.note_strayed.new.self.history is_recorded) { pending = unboxed p }
 
   done : IsValid (with c.forget.new.pending) × IsCommitted e c.args.how left (e.commits + 1) c.args.batch.ops (with c.forget.new.pending)
   done =
       subst (λ (p : Option (Box Pending)). IsValid (with p) × IsCommitted e c.args.how left (e.commits + 1) c.args.batch.ops (with p)) (sym c.forget.ensures)
       (committed e c.args.how left c.args.batch (may (goal.at.After-forget c).After-prepare) c.self.invariant.valid c.follow.new.view.tree leads
-      c.note.new.self.history is_recorded)
+      c.note_strayed.new.self.history is_recorded)
 
 pub follow-requires : goal.follow-requires
 follow-requires c =
@@ -58,7 +58,7 @@ follow-requires c =
 pub invariant_of-self-2 : goal.invariant_of-self-2
 invariant_of-self-2 c = record {
   valid = (done (goal.at.invariant_of-self-2 c).After-forget).0;
-  told = subst (IsAway c.note.new.self.history.current c.note.new.self.strays) c.in_ok-entry.ensures.links c.note.ensures.strays;
+  told = subst (IsAway c.note_strayed.new.self.history.current c.note_strayed.new.self.strays) c.in_ok-entry.ensures.links c.note_strayed.ensures.strays;
 }
 
 pub returns-clause-committed : goal.returns-clause-committed
