@@ -1,13 +1,15 @@
 -- What is pending, as lines take it in or leave it.
 use Rattle.std.proofs.Common.{◌≡◌, ◌∙◌, ℕ, ◌+◌, ◌<◌, ◌≤◌, ◌==◌, nat_lt, true, false, not, if◌then◌else◌, List, length, Option, None, Some, Ok, Err, refl, sym, ap, subst, arith, inl, inr}
-use Rattle.std.proofs.lemmas.Bool.{cases_Bool}
 use Rattle.std.proofs.lemmas.Bool.Decides.{nat_tests}
 use Rattle.lx_node.specs.declared.cause.Cause.{Cause}
 use Rattle.lx_node.specs.declared.cause.Cause.TheVariants.{TooManyRules}
+use Rattle.lx_step.specs.declared.line.Form.{Form}
+use Rattle.lx_step.specs.declared.line.Line.{Line}
 use Rattle.lx_step.specs.declared.line.Tags.{Tags}
 use Rattle.lx_step.specs.declared.rule.Rule.{Rule}
 use Rattle.lx_step.specs.declared.step.Step.{Step}
 use Rattle.lx_draft.specs.Working.{Working}
+use Rattle.lx_script.specs.Grammar.{Reads}
 use Rattle.lx_run.specs.Lines.{deferred_run, drafted}
 use Rattle.lx_run.specs.Refusals.{TellsRefusal}
 use Rattle.lx_run.specs.declared.refusal.Refusal.{Refusal}
@@ -17,8 +19,8 @@ use Rattle.lx_editor.specs.declared.outcome.Outcome.TheVariants as made
 use Rattle.lx_editor.specs.declared.pending.Pending.{Pending}
 use Rattle.lx_editor.specs.declared.recording.Recording.{Recording}
 use Rattle.lx_editor.specs.Editor.{Editor}
-use Rattle.lx_editor.specs.Gathering.{begun, gathered_by, is_gathering, pending_of, recording, recording_all, started_of, with_line, with_nothing_pending, with_pending, IsDeferred, IsGatheredOf, IsLeftWithout, IsPending}
-use Rattle.lx_editor.specs.Follows.{at_moment}
+use Rattle.lx_editor.specs.Gathering.{begun, gathered_by, is_gathering, pending_of, recording, recording_all, started_of, with_line, with_nothing_pending, with_pending, IsDeferred, IsGatheredOf, IsPending}
+use Rattle.lx_editor.specs.Follows.{at_moment, without_memory, IsLeftWithout}
 use Rattle.lx_editor.specs.Registered.{most_rules, left_for, merging, unless_full, with_rule, IsRegistered}
 use Rattle.lx_editor.specs.Standing.{IsValid}
 use Rattle.lx_editor.specs.Updated.{IsMadeOf}
@@ -30,12 +32,6 @@ room_for_rule old fits = ap (λ b. record old { pending = if b then None else ol
 
 pub no_room_for_rule : (old : Editor) → nat_lt (length old.rules) most_rules ≡ false → unless_full old ≡ old
 no_room_for_rule old full = ap (λ b. record old { pending = if b then None else old.pending }) full
-
-pub rule_left_without : (old new : Editor) → new ≡ unless_full old → IsLeftWithout old new
-rule_left_without old new is = elim (cases_Bool (nat_lt (length old.rules) most_rules)) [
-  | inl fits ↦ inr (is ∙ room_for_rule old fits)
-  | inr full ↦ inl (is ∙ no_room_for_rule old full)
-]
 
 -- where there is room for it
 pub rules_fit : (old : Editor) (n : ℕ) → n ≡ length old.rules → n < 258 → nat_lt (length old.rules) most_rules ≡ true
@@ -128,9 +124,20 @@ still_pending old mid p taken goes = subst (λ (e : Editor). IsPending (started_
 -- ---- the time
 
 -- an editor whose time a line carried, and is set back
-pub moment_back : (old mid new : Editor) (at : Option ℕ) → IsLeftWithout (at_moment at old) mid → new ≡ record mid { moment = old.moment }
-    → IsLeftWithout old new
-moment_back old mid new None (inl same) is = inl (is ∙ ap (λ (e : Editor). record e { moment = old.moment }) same)
-moment_back old mid new None (inr same) is = inr (is ∙ ap (λ (e : Editor). record e { moment = old.moment }) same)
-moment_back old mid new (Some moment) (inl same) is = inl (is ∙ ap (λ (e : Editor). record e { moment = old.moment }) same)
-moment_back old mid new (Some moment) (inr same) is = inr (is ∙ ap (λ (e : Editor). record e { moment = old.moment }) same)
+pub moment_back : (old mid new : Editor) (form : Form) (at : Option ℕ) → mid ≡ without_memory form (at_moment at old)
+    → new ≡ record mid { moment = old.moment } → new ≡ without_memory form old
+moment_back old mid new form None left is = is ∙ ap (λ (e : Editor). record e { moment = old.moment }) left
+moment_back old mid new form (Some moment) left is = is ∙ ap (λ (e : Editor). record e { moment = old.moment }) left
+
+-- ---- out of memory
+
+-- bytes that ask for a line leave what that leaves
+pub left_by_line : (old new : Editor) (bytes : List ℕ) (line : Line) → Reads bytes (Ok line) → new ≡ without_memory line.form old
+    → IsLeftWithout old bytes new
+unfolding IsLeftWithout
+left_by_line old new bytes line read left = inr (line, read, left)
+
+-- and an editor that is as it was is left by any
+pub left_as_it_was : (e : Editor) (bytes : List ℕ) → IsLeftWithout e bytes e
+unfolding IsLeftWithout
+left_as_it_was e bytes = inl refl

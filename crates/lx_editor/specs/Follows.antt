@@ -1,5 +1,5 @@
 -- How an editor may answer lines, and how the bytes of replies follow from them.
-use Rattle.std.specs.Prelude.{◌≡◌, ℕ, List, [], ◌∷◌, ◌++◌, length, if◌then◌else◌, Bool, Option, None, Some, option_map, Result, Ok, Err}
+use Rattle.std.specs.Prelude.{◌≡◌, ◌⊎◌, ℕ, nat_lt, List, [], ◌∷◌, ◌++◌, length, if◌then◌else◌, Bool, true, false, Option, None, Some, option_map, Result, Ok, Err}
 use Rattle.serde_json.specs.View.{view}
 use Rattle.lx_node.specs.declared.cause.Cause.{Cause}
 use Rattle.lx_host.specs.Html.{html_of}
@@ -14,6 +14,7 @@ use Rattle.lx_step.specs.declared.line.Shown.TheVariants.{State, View, Selection
 use Rattle.lx_step.specs.declared.line.Tags.{Tags}
 use Rattle.lx_step.specs.declared.listener.Listener.{Listener as ListenerOf}
 use Rattle.lx_step.specs.Spelled.{steps_of}
+use Rattle.lx_rules.specs.declared.any_rule.AnyRule.{AnyRule}
 use Rattle.lx_script.specs.declared.reply.Reply.{Reply}
 use Rattle.lx_script.specs.declared.reply.Reply.TheVariants as reply
 use Rattle.lx_script.specs.Grammar.{Reads}
@@ -27,7 +28,7 @@ use Rattle.lx_editor.specs.Dispatched.{IsDispatched, IsListening}
 use Rattle.lx_editor.specs.Editor.{Editor}
 use Rattle.lx_editor.specs.Gathering.{recording, IsDeferred}
 use Rattle.lx_editor.specs.Loaded.{IsLoaded}
-use Rattle.lx_editor.specs.Registered.{IsRegistered}
+use Rattle.lx_editor.specs.Registered.{most_rules, IsRegistered}
 use Rattle.lx_editor.specs.Turned.{with_nothing_recorded}
 use Rattle.lx_editor.specs.Updated.{IsUpdated, IsFlushed}
 
@@ -118,3 +119,25 @@ FollowsTo old (line ∷ lines) bytes new =
 -- the bytes answer the lines, whatever editor is left
 abbrev pub Follows : Editor → List (List ℕ) → List ℕ → Type 0
 Follows old lines bytes = (new : Editor) × FollowsTo old lines bytes new
+
+-- ---- out of memory
+
+-- Whether a line of this form runs on what is pending beside these rules: an update, also one that waits, a flush, a
+-- dispatch, and a rule that isn't one too many.
+abbrev pub runs_on_pending : List AnyRule → Form → Bool
+runs_on_pending rules (Update script) = true
+runs_on_pending rules (Defer script) = true
+runs_on_pending rules Flush = true
+runs_on_pending rules (Dispatch command) = true
+runs_on_pending rules (Rule rule) = nat_lt (length rules) most_rules
+runs_on_pending rules other = false
+
+-- The editor that a line of this form leaves where memory runs out: nothing is pending where the line runs on that, and
+-- all else is as it was.
+abbrev pub without_memory : Form → Editor → Editor
+without_memory form e = record e { pending = if runs_on_pending e.rules form then None else e.pending }
+
+-- What bytes leave of an editor where memory runs out: all is as it was, if that was while they were read or refused; or
+-- they ask for a line, and it is what that line leaves.
+unfoldable pub IsLeftWithout : Editor → List ℕ → Editor → Type 0
+IsLeftWithout old bytes new = (new ≡ old) ⊎ ((line : Line) × Reads bytes (Ok line) × (new ≡ without_memory line.form old))

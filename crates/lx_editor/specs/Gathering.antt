@@ -1,5 +1,5 @@
 -- Updates that wait for a line which commits them, and what such a line begins with.
-use Rattle.std.specs.Prelude.{◌≡◌, ◌≤◌, ◌⊎◌, ℕ, ◌+◌, ◌==◌, Bool, not, List, Option, None, Some, option_map, unwrap_or, Result, Ok, Err}
+use Rattle.std.specs.Prelude.{◌≡◌, ◌≤◌, ℕ, ◌+◌, ◌==◌, Bool, not, List, Option, None, Some, option_map, unwrap_or, Result, Ok, Err}
 use Rattle.std.specs.Global.{Box}
 use Rattle.lx_step.specs.declared.line.Tags.{Tags}
 use Rattle.lx_step.specs.declared.step.Step.{Step}
@@ -43,10 +43,6 @@ is_gathering e = not ((pending_of e).lines == 0)
 -- the editor with nothing pending
 abbrev pub with_nothing_pending : Editor → Editor
 with_nothing_pending e = record e { pending = None }
-
--- What is left of an editor that runs out of memory: it is as it was, or nothing is pending in it any more.
-abbrev pub IsLeftWithout : Editor → Editor → Type 0
-IsLeftWithout old new = (new ≡ old) ⊎ (new ≡ with_nothing_pending old)
 
 -- how a commit is recorded: by its tags, and at its time
 abbrev pub recording : Tags → ℕ → Recording

@@ -1,7 +1,6 @@
 ghost use Rattle.lx_node.specs.Limits.{last_u32};
 ghost use Rattle.std.specs.Prelude.{◌≡◌, ◌+◌, ◌<◌, ◌≤◌, IfOk, OnErr};
-ghost use Rattle.lx_editor.specs.Follows.{Answers};
-ghost use Rattle.lx_editor.specs.Gathering.{IsLeftWithout};
+ghost use Rattle.lx_editor.specs.Follows.{Answers, IsLeftWithout};
 
 use crate::editor::Editor;
 use lx_node::{Fault, NoMemory};
@@ -10,9 +9,10 @@ use lx_value::Room;
 use std::alloc::Global;
 
 /// Answers a line of bytes, without its end, with the bytes of a reply. A line that is refused changes
-/// nothing that is committed. Where memory runs out the editor is as it was, but for what is pending, which is dropped
-/// where the line ran on it. The room is lent to any number of lines, one after another.
-#[tactic(auto, unfolding(crate::specs::Follows::Answers))]
+/// nothing that is committed. Where memory runs out while the bytes are read or refused, the editor is as it was.
+/// Where it runs out behind that, the editor is as `Editor::line` leaves it then. The room is lent to any number of
+/// lines, one after another.
+#[tactic(auto, using(crate::proofs::Waiting::left_as_it_was), unfolding(crate::specs::Follows::Answers))]
 pub fn answer_line(
     alloc: Global,
     editor: &mut Editor,
@@ -22,7 +22,7 @@ pub fn answer_line(
     requires { editor.old.commits < last_u32 }
     ensures answer { IfOk result (λ reply. Answers editor.old line.now reply.items editor.new) }
     ensures commits { editor.new.commits ≤ editor.old.commits + 1 }
-    ensures unchanged { OnErr result (IsLeftWithout editor.old editor.new) }
+    ensures unchanged { OnErr result (IsLeftWithout editor.old line.now editor.new) }
 {
     match read_line(alloc, line, room) {
         Ok(line) => editor.line(alloc, line),

@@ -13,7 +13,7 @@ use lx_draft::{Frozen, State};
 use lx_history::History;
 use lx_host::HostTree;
 use lx_marks::Marks;
-use lx_node::NoMemory;
+use lx_node::{NoMemory, Txt};
 use lx_reconcile::Batch;
 use lx_rules::AnyRule;
 use lx_script::{Reply, write_reply, write_slice, write_state};
@@ -86,6 +86,8 @@ impl Model for Editor {
 impl Editor {
     ghost use Rattle.std.specs.Prelude.{◌≡◌, ◌↔◌, ◌+◌, ◌<◌, ◌≤◌, None, All, IfOk, OnOk, OnErr};
     ghost use Rattle.std.specs.Option.{option_copied};
+    ghost use Rattle.lx_host.specs.Html.{html_of};
+    ghost use Rattle.lx_render.specs.Render.{render};
     ghost use Rattle.lx_step.specs.Sound.{IsSound};
     ghost use Rattle.lx_reconcile.specs.Allowed.{Shows};
     ghost use Rattle.lx_editor.specs.declared.outcome.Outcome.{Outcome as OutcomeOf};
@@ -130,12 +132,19 @@ impl Editor {
         &self.state
     }
 
-    /// The host tree that shows the committed tree. It has no unplaced host.
-    pub fn view(&self) -> &HostTree
+    /// The tree of hosts that shows the committed tree. It has no unplaced host.
+    pub fn hosts(&self) -> &HostTree
         ensures view { result.now.tree ≡ self.now.view }
         ensures shows { Shows self.now.view self.now.tree }
     {
         &self.view
+    }
+
+    /// The view as HTML: that of the committed tree's rendering.
+    pub fn view(&self, _alloc: Global) -> Result<Txt, NoMemory>
+        ensures html { IfOk result (λ html. html ≡ html_of (render self.now.tree)) }
+    {
+        self.view.print_html()
     }
 
     /// The number of the last commit, and 0 before the first. Each call that can commit needs it to be below
@@ -329,7 +338,7 @@ impl Editor {
     fn show_view(&self, alloc: Global) -> Result<Vec<u8>, NoMemory>
         ensures { IfOk result (λ reply. reply.items ≡ shown_text shown.View self.now) }
     {
-        let html = self.view.print_html()?;
+        let html = self.view(alloc)?;
         write_reply(alloc, &Reply::View(html))
     }
 }

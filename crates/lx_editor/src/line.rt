@@ -11,22 +11,22 @@ use std::alloc::Global;
 impl Editor {
     ghost use Rattle.std.specs.Prelude.{◌+◌, ◌<◌, ◌≤◌, None, OnOk, OnErr};
     ghost use Rattle.lx_step.specs.Sound.{IsSoundForm};
-    ghost use Rattle.lx_editor.specs.Gathering.{IsLeftWithout};
     ghost use Rattle.lx_editor.specs.Changes.{IsChange, IsToldChange};
-    ghost use Rattle.lx_editor.specs.Follows.{RepliesTo, RepliesToLine, at_moment};
+    ghost use Rattle.lx_editor.specs.Follows.{RepliesTo, RepliesToLine, at_moment, without_memory};
 
     /// Does what a line asks for, and answers with the bytes of a reply: the outcome of an update, of a flush, of a
     /// dispatch, of registering a rule or of a load, the number of a listener, what is committed, or that the history is
     /// cleared. The line's time is the one that it carries, or else that of the line before. The reply to a commit
     /// includes the view after it, where the editor was made so. The reply is made before anything is committed,
-    /// gathered, registered or forgotten, so where memory runs out the editor is as it was, but for what is pending,
-    /// which is dropped where the line ran on it.
+    /// gathered, registered or forgotten, so where memory runs out the editor is as it was, but for what is pending.
+    /// That is dropped by a line that runs on it: an update, also one that waits, a flush, a dispatch, or a rule that
+    /// isn't one too many. It stays at any other.
     pub fn line(&mut self, alloc: Global, line: Line) -> Result<Vec<u8>, NoMemory>
         requires sound { IsSoundForm line.form }
         requires room { self.old.commits < last_u32 }
         ensures replies { IfOk result (λ reply. RepliesToLine self.old line reply.items self.new) }
         ensures commits { self.new.commits ≤ self.old.commits + 1 }
-        ensures unchanged { OnErr result (IsLeftWithout self.old self.new) }
+        ensures unchanged { OnErr result (self.new ≡ without_memory line.form self.old) }
     {
         let mut untold = Telling::new(false);
         self.reply_to_line(alloc, line, &mut untold)
@@ -34,7 +34,8 @@ impl Editor {
 
     /// The same, and what the line changed, where it committed: the operations that its reply lists, the state that was
     /// committed before, and marks that cover the trees before and after. With updates that waited it is all that they
-    /// changed, too. It is there exactly where the line committed.
+    /// changed, too. It is there exactly where the line committed. Where memory runs out the editor is as `line` leaves
+    /// it then.
     pub fn line_with_change(
         &mut self,
         alloc: Global,
@@ -45,7 +46,7 @@ impl Editor {
         ensures replies { IfOk result (λ told. RepliesToLine self.old line told.0.items self.new) }
         ensures change { IfOk result (λ told. IsChange self.old told.1 self.new) }
         ensures commits { self.new.commits ≤ self.old.commits + 1 }
-        ensures unchanged { OnErr result (IsLeftWithout self.old self.new) }
+        ensures unchanged { OnErr result (self.new ≡ without_memory line.form self.old) }
     {
         let mut told = Telling::new(true);
         let reply = self.reply_to_line(alloc, line, &mut told)?;
@@ -65,7 +66,7 @@ impl Editor {
         ensures change { OnOk result (IsToldChange told.old.asked self.old told.new.change self.new) }
         ensures replies { IfOk result (λ reply. RepliesToLine self.old line reply.items self.new) }
         ensures commits { self.new.commits ≤ self.old.commits + 1 }
-        ensures unchanged { OnErr result (IsLeftWithout self.old self.new) }
+        ensures unchanged { OnErr result (self.new ≡ without_memory line.form self.old) }
     {
         let before = self.last_moment();
         self.begin_at(line.at);
@@ -102,7 +103,7 @@ impl Editor {
     }
 
     /// Does what a line of this form asks for at its time.
-    #[tactic(auto, using(crate::proofs::Waiting::rule_left_without, crate::proofs::Said::replying), unfolding(crate::specs::Follows::RepliesTo))]
+    #[tactic(auto, using(crate::proofs::Said::replying), unfolding(crate::specs::Follows::RepliesTo))]
     fn reply_to_form(
         &mut self,
         alloc: Global,
@@ -115,7 +116,7 @@ impl Editor {
         requires untold { told.old.change ≡ None }
         ensures replies { IfOk result (λ reply. RepliesTo self.old tags form reply.items self.new × IsToldChange told.old.asked self.old told.new.change self.new) }
         ensures commits { self.new.commits ≤ self.old.commits + 1 }
-        ensures unchanged { OnErr result (IsLeftWithout self.old self.new) }
+        ensures unchanged { OnErr result (self.new ≡ without_memory form self.old) }
     {
         let moment = self.last_moment();
         let how = Recording { tags, moment };

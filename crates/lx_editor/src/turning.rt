@@ -28,6 +28,7 @@ fn boxed_copy(alloc: Global, state: &State) -> Result<Box<State>, NoMemory>
 
 impl Editor {
     ghost use Rattle.std.specs.Prelude.{◌+◌, ◌<◌, ◌≤◌, length, OnOk, OnErr};
+    ghost use Rattle.lx_step.specs.declared.built_in.Turn.TheVariants as way;
     ghost use Rattle.lx_script.specs.Replies.{reply_text};
     ghost use Rattle.lx_script.specs.declared.reply.Reply.TheVariants.{Cleared};
     ghost use Rattle.lx_editor.specs.Standing.{IsEntry, EachEntry};
@@ -57,6 +58,26 @@ impl Editor {
             });
         }
         self.turn_alone(alloc, turn, moment)
+    }
+
+    /// Undoes: `turn` with `Turn::Undo`.
+    pub fn undo(&mut self, alloc: Global, moment: u64) -> Result<Outcome, NoMemory>
+        requires room { self.old.commits < last_u32 }
+        ensures turned { IfOk result (λ outcome. IsTurnedAlone way.Undo moment self.old outcome self.new) }
+        ensures commits { self.new.commits ≤ self.old.commits + 1 }
+        ensures unchanged { OnErr result (self.new ≡ with_nothing_pending self.old) }
+    {
+        self.turn(alloc, Turn::Undo, moment)
+    }
+
+    /// Redoes: `turn` with `Turn::Redo`.
+    pub fn redo(&mut self, alloc: Global, moment: u64) -> Result<Outcome, NoMemory>
+        requires room { self.old.commits < last_u32 }
+        ensures turned { IfOk result (λ outcome. IsTurnedAlone way.Redo moment self.old outcome self.new) }
+        ensures commits { self.new.commits ≤ self.old.commits + 1 }
+        ensures unchanged { OnErr result (self.new ≡ with_nothing_pending self.old) }
+    {
+        self.turn(alloc, Turn::Redo, moment)
     }
 
     /// Goes to another state of the history where no lines are gathered.

@@ -9,8 +9,14 @@ use std::alloc::Global;
 
 /// The view as HTML, and how many nodes the state has.
 pub(crate) fn view(alloc: Global, editor: &Editor) -> Result<String> {
-    let html = editor.view().print_html()?;
+    let html = editor.view(alloc)?;
     Ok(format!(in alloc; "{} {}", editor.state().links.len(), html.as_str())?)
+}
+
+/// The host that shows the first block.
+pub(crate) fn first_host(alloc: Global, editor: &Editor) -> Result<String> {
+    let first = editor.hosts().first_child(0);
+    Ok(format!(in alloc; "{first:?}")?)
 }
 
 /// How many entries there are to go back to, and forth to.

@@ -72,13 +72,20 @@ pub(crate) fn sign(alloc: Global, editor: &mut Editor) -> Result<String> {
 
 pub(crate) fn undo(alloc: Global, editor: &mut Editor) -> Result<String> {
     room(editor)?;
-    let outcome = editor.turn(alloc, Turn::Undo, 5000)?;
+    let outcome = editor.undo(alloc, 5000)?;
     told(alloc, &outcome)
 }
 
 pub(crate) fn redo(alloc: Global, editor: &mut Editor) -> Result<String> {
     room(editor)?;
-    let outcome = editor.turn(alloc, Turn::Redo, 6000)?;
+    let outcome = editor.redo(alloc, 6000)?;
+    told(alloc, &outcome)
+}
+
+/// Undoes, by the call that also redoes.
+pub(crate) fn turn_back(alloc: Global, editor: &mut Editor) -> Result<String> {
+    room(editor)?;
+    let outcome = editor.turn(alloc, Turn::Undo, 9000)?;
     told(alloc, &outcome)
 }
 

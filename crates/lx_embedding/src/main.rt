@@ -5,6 +5,7 @@
 mod asking;
 mod begin;
 mod editing;
+mod gridded;
 mod large;
 mod registering;
 mod waiting;
@@ -24,6 +25,7 @@ fn tell_all<W: Write>(alloc: Global, out: &mut W) -> Result<()> {
     tell(out, "click", editing::click(alloc, &mut editor)?)?;
     tell(out, "type", editing::type_text(alloc, &mut editor)?)?;
     tell(out, "view", asking::view(alloc, &editor)?)?;
+    tell(out, "first host", asking::first_host(alloc, &editor)?)?;
     tell(out, "undo", editing::undo(alloc, &mut editor)?)?;
     tell(out, "redo", editing::redo(alloc, &mut editor)?)?;
     tell(out, "redo again", editing::redo(alloc, &mut editor)?)?;
@@ -42,6 +44,7 @@ fn tell_all<W: Write>(alloc: Global, out: &mut W) -> Result<()> {
     editor.clear_history();
     tell(out, "cleared", asking::current(alloc, &editor)?)?;
     tell_waiting(alloc, &mut editor, out)?;
+    tell(out, "grid", gridded::places(alloc)?)?;
     tell(out, "large document", large::type_into_last_text(alloc)?)
 }
 
@@ -54,7 +57,7 @@ fn tell_waiting<W: Write>(alloc: Global, editor: &mut Editor, out: &mut W) -> Re
     tell(out, "flush", waiting::flush(alloc, editor)?)?;
     tell(out, "counts", asking::counts(alloc, editor)?)?;
     tell(out, "defer", waiting::defer(alloc, editor, "Later")?)?;
-    tell(out, "undo", editing::undo(alloc, editor)?)?;
+    tell(out, "turn", editing::turn_back(alloc, editor)?)?;
     tell(out, "counts", asking::counts(alloc, editor)?)?;
     tell(out, "defer", waiting::defer(alloc, editor, "Never")?)?;
     tell(out, "refused", editing::remove_missing(alloc, editor)?)?;

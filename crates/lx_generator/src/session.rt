@@ -68,7 +68,7 @@ fn dispatch_all(
 fn summary_of(lines: u32, editor: &Editor, tally: Tally) -> Result<Summary, NoMemory>
     ensures { IfOk result (λ summary. summary ≡ summary_of lines editor.now tally) }
 {
-    let html = editor.view().print_html()?;
+    let html = editor.hosts().print_html()?;
     let (undo, redo) = editor.depths();
     let state = editor.state();
     Ok(Summary {

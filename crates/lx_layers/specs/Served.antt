@@ -4,8 +4,7 @@ use Rattle.serde_json.specs.Data.{Data}
 use Rattle.lx_host.specs.declared.op.Op.{Op}
 use Rattle.lx_reconcile.specs.Told.{Told}
 use Rattle.lx_editor.specs.Editor.{Editor, new_editor}
-use Rattle.lx_editor.specs.Follows.{Answers}
-use Rattle.lx_editor.specs.Gathering.{IsLeftWithout}
+use Rattle.lx_editor.specs.Follows.{Answers, IsLeftWithout}
 use Rattle.lx_hub.specs.Hub.{Hub, new_hub, published}
 use Rattle.lx_outline.specs.Events.{AreEvents}
 use Rattle.lx_outline.specs.Outline.{IsOutlineOf}
@@ -118,12 +117,12 @@ spent s = s.editor.commits + made_in s.layer
 
 -- ---- out of memory
 
--- What is left without memory: with nothing beside the editor, what is left of an editor. Beside a hub or an outline
--- nothing is answered any more, since the layer may lack a commit.
-abbrev pub IsLeftBeside : Layer → Editor → Served → Type 0
-IsLeftBeside layer.Plain old new = IsLeftWithout old new.editor × (new.layer ≡ layer.Plain)
-IsLeftBeside other old new = new.layer ≡ layer.Gone
+-- What is left without memory: with nothing beside the editor, what the line leaves of an editor. Beside a hub or an
+-- outline nothing is answered any more, since the layer may lack a commit.
+abbrev pub IsLeftBeside : Layer → Editor → List ℕ → Served → Type 0
+IsLeftBeside layer.Plain old line new = IsLeftWithout old line new.editor × (new.layer ≡ layer.Plain)
+IsLeftBeside other old line new = new.layer ≡ layer.Gone
 
--- what is left of an editor with its layer where memory runs out
-abbrev pub IsLeftIn : Served → Served → Type 0
-IsLeftIn old new = IsLeftBeside old.layer old.editor new
+-- what a line leaves of an editor with its layer where memory runs out
+abbrev pub IsLeftIn : Served → List ℕ → Served → Type 0
+IsLeftIn old line new = IsLeftBeside old.layer old.editor line new

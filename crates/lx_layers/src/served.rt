@@ -69,7 +69,7 @@ impl Served {
         requires { spent self.old < last_u32 }
         ensures answer { IfOk result (λ reply. AnswersIn self.old line.now reply.items self.new) }
         ensures spent { spent self.new ≤ spent self.old + 1 }
-        ensures left { OnErr result (IsLeftIn self.old self.new) }
+        ensures left { OnErr result (IsLeftIn self.old line.now self.new) }
     {
         let answer = match &mut self.layer {
             Layer::Plain => return answer_line(alloc, &mut self.editor, line, room),

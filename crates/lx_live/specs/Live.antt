@@ -2,8 +2,7 @@
 use Rattle.std.specs.Prelude.{◌≡◌, ◌≤◌, ◌<◌, ◌⊎◌, ◌++◌, ℕ, List, [], length, take, drop, Option, None, Some}
 use Rattle.lx_node.specs.Limits.{last_u32}
 use Rattle.lx_editor.specs.Editor.{Editor}
-use Rattle.lx_editor.specs.Follows.{Answers}
-use Rattle.lx_editor.specs.Gathering.{IsLeftWithout}
+use Rattle.lx_editor.specs.Follows.{Answers, IsLeftWithout}
 use Rattle.lx_live.specs.declared.editor.LiveEditor.{LiveEditor}
 use Rattle.lx_live.specs.declared.editor.CallEnd.{CallEnd}
 use Rattle.lx_live.specs.declared.editor.CallEnd.TheVariants.{Done, Closed, Memory, TooLong, Spent}
@@ -47,13 +46,13 @@ pub record CanAnswer (live : LiveEditor) (line : List ℕ) : Type 0 where
   pub numbered : live.editor.commits < last_u32
 
 -- A call with this line on this editor may end so, leave the new one, and put this. The answer is one that the plain editor allows. At
--- each other end nothing is put, and the reply before is kept; only memory may have cost what was pending.
+-- each other end nothing is put, and the reply before is kept; only a want of memory may change the editor, as the line says.
 abbrev pub IsCallOn : CallEnd → LiveEditor → LiveEditor → List ℕ → List ℕ → List ℕ → ℕ → Type 0
 IsCallOn Done old new line before after size =
     CanAnswer old line × Answers old.editor line new.reply.items new.editor × IsPiecePut new.reply.items 0 before after size
 IsCallOn Closed old new line before after size = ⊥
 IsCallOn Memory old new line before after size =
-    CanAnswer old line × IsLeftWithout old.editor new.editor × (new.reply ≡ old.reply) × IsNothingPut before after size
+    CanAnswer old line × IsLeftWithout old.editor line new.editor × (new.reply ≡ old.reply) × IsNothingPut before after size
 IsCallOn TooLong old new line before after size = (line_limit < length line) × (new ≡ old) × IsNothingPut before after size
 IsCallOn Spent old new line before after size =
     (length line ≤ line_limit) × (old.editor.commits ≡ last_u32) × (new ≡ old) × IsNothingPut before after size

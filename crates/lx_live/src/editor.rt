@@ -2,8 +2,7 @@
 ghost use Rattle.std.specs.Prelude.{◌≡◌, ◌<◌, [], IfOk, OnOk, OnErr};
 ghost use Rattle.lx_node.specs.Limits.{last_u32};
 ghost use Rattle.lx_editor.specs.Editor.{new_editor};
-ghost use Rattle.lx_editor.specs.Follows.{Answers};
-ghost use Rattle.lx_editor.specs.Gathering.{IsLeftWithout};
+ghost use Rattle.lx_editor.specs.Follows.{Answers, IsLeftWithout};
 ghost use Rattle.lx_live.specs.Live.{number_of_end, IsCallOn, IsPiecePut};
 
 use lx_editor::{Editor, answer_line};
@@ -72,7 +71,7 @@ impl LiveEditor {
     fn reply_to(&mut self, alloc: Global, line: &[u8]) -> Result<(), NoMemory>
         requires { self.old.editor.commits < last_u32 }
         ensures answers { OnOk result (Answers self.old.editor line.now self.new.reply.items self.new.editor) }
-        ensures unchanged { OnErr result (IsLeftWithout self.old.editor self.new.editor) }
+        ensures unchanged { OnErr result (IsLeftWithout self.old.editor line.now self.new.editor) }
         ensures kept { OnErr result (self.new.reply ≡ self.old.reply) }
     {
         self.reply = answer_line(alloc, &mut self.editor, line, &mut self.room)?;

@@ -44,7 +44,7 @@ pub extern "C" fn lx_live_open(
 /// reply is a refusal: `length` is then that of the reply in bytes, and the output begins with as much of it as goes in. At
 /// each other number `length` is 0 and the output stays: 1 where the slot has no editor, 6 where the line has more than
 /// 16,777,216 bytes, 7 where the editor has made 4,294,967,295 commits, and nothing is done; 5 where memory was wanting, and the
-/// editor is as it was, but for what is pending, which may be dropped.
+/// editor is as it was, but for what is pending, which may be dropped if the line runs on it.
 #[unsafe(no_mangle)]
 pub extern "C" fn lx_live_line(
     alloc: Global,

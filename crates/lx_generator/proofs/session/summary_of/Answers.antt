@@ -18,8 +18,8 @@ returns c =
     let characters = c.characters.ensures ∙ ap (λ (f : Forest). min (weight characters_in f) last_u32) tree_is
     ∙ characters_are e.tree e.selection e.next_key state in
     let nodes = c.len.ensures.len ∙ ap total tree_is in
-    let html = c.in_ok-html.ensures.html ∙ ap (λ (v : HostTree). html_of (first_tree (shape_of v.hosts))) c.view.ensures.view
-    ∙ printed e.tree e.selection e.next_key e.view state c.view.ensures.shows in
+    let html = c.in_ok-html.ensures.html ∙ ap (λ (v : HostTree). html_of (first_tree (shape_of v.hosts))) c.hosts.ensures.view
+    ∙ printed e.tree e.selection e.next_key e.view state c.hosts.ensures.shows in
     let view = ap (λ (t : List ℕ). length t) (c.as_str.ensures.bytes ∙ ap encode_utf8_all html) in
     summary_is c.args.lines e c.args.tally c.characters.result c.len.result c.depths-undo.result.1 c.depths-undo.result.0 (length c.as_str.result.now)
     characters nodes c.depths-undo.ensures.told.1 c.depths-undo.ensures.told.0 view

@@ -1,7 +1,6 @@
 use Rattle.std.proofs.Common.{◌∙◌, ℕ, ap, subst}
 use Rattle.lx_editor.specs.Editor.{Editor}
-use Rattle.lx_editor.specs.Follows.{RepliesTo}
-use Rattle.lx_editor.specs.Gathering.{IsLeftWithout}
+use Rattle.lx_editor.specs.Follows.{RepliesTo, without_memory}
 use Rattle.lx_editor.proofs.Changed.{told_from, uncommitted_moment}
 use Rattle.lx_editor.proofs.Waiting.{moment_back}
 use Rattle.lx_editor.proofs.editor.Editor.reply_to_line.Goals as goal
@@ -19,6 +18,6 @@ returns-in-Ok-clause-change c =
 
 pub returns-in-Err-clause-unchanged : goal.returns-in-Err-clause-unchanged
 returns-in-Err-clause-unchanged c =
-    moment_back c.args.self.now c.reply_to_form.new.self c.set_moment.new.self c.args.line.at
-    (subst (λ (e : Editor). IsLeftWithout e c.reply_to_form.new.self) c.begin_at.ensures.moment c.in-Err.ensures.unchanged)
+    moment_back c.args.self.now c.reply_to_form.new.self c.set_moment.new.self c.args.line.form c.args.line.at
+    (c.in-Err.ensures.unchanged ∙ ap (without_memory c.args.line.form) c.begin_at.ensures.moment)
     (c.set_moment.ensures.moment ∙ ap (λ (m : ℕ). record c.reply_to_form.new.self { moment = m }) c.last_moment-before.ensures)
