@@ -77,6 +77,7 @@ state_rises f g s t k m state other more = record {
     few = state.start.few;
     whole = state.start.whole;
     shallow = state.start.shallow;
+    characters = state.start.characters;
   };
   within = within_key f k m state.within (key_within g m other.within);
   selected = state.selected;
