@@ -1,14 +1,18 @@
 //! Shows what steps make of a state. Standard input holds sessions, one after another: a line `=== NAME` begins each, and
 //! comes out again. Each other line is an update or a question in JSON, as the program `lexical` reads them. A session
-//! begins with the state of a new editor, and each update runs on the state that the one before it left.
+//! begins with the state of a new editor, and each update runs on the state that the one before it left. The line `=> copy`
+//! copies what is selected into a new document.
 //!
 //! An update comes out as one line with what it left: the HTML of the tree, its keys in preorder, the selection, the lines
 //! that a range selects, the next key, and the leaves and the elements that it marked, in their order, with `!` after an
 //! element that was marked itself.
 //! One that is refused leaves the state as it was, and comes out as the reply that says its cause. A question comes out
-//! as its reply. Rules, listeners and dispatches are refused: nothing comes to rest here, and nobody listens.
+//! as its reply. A copy comes out as an update does, with what the new document holds, and the session's state stays; where
+//! nothing is covered it comes out as a slice does. Rules, listeners and dispatches are refused: nothing comes to rest
+//! here, and nobody listens.
 #![tactic(auto)]
 
+mod copying;
 mod session;
 mod telling;
 

@@ -4,17 +4,22 @@ ghost use Rattle.std.specs.Prelude.{IfOk, All};
 ghost use Rattle.lx_step.specs.Sound.{IsSound, IsSoundForm};
 ghost use Rattle.lx_draft.specs.Working.{MayStart};
 
+use crate::copying::{copied, lost_point};
 use crate::telling::tell;
 use anyhow::Result;
 use lx_bus::Bus;
+use lx_clip::slice;
 use lx_draft::{Draft, Frozen, State};
-use lx_node::{Cause, Fault, NoMemory};
+use lx_node::{Cause, Fault, Lost, NoMemory};
 use lx_reconcile::fresh;
 use lx_run::{Refusal, run_steps};
-use lx_script::{Reply, read_line, write_reply};
+use lx_script::{Reply, read_line, write_reply, write_slice};
 use lx_step::{Form, Line, Shown, Step};
 use lx_value::Room;
 use std::alloc::Global;
+
+/// The line that asks for a copy of what is selected.
+const COPY: &[u8] = b"=> copy";
 
 /// A state, and the key that the next new node gets: an update may start from them.
 #[derive(Drop)]
@@ -43,6 +48,9 @@ impl Session {
 
     /// Does what a line asks for, and answers a line without its end that says so.
     pub(crate) fn answer(&mut self, alloc: Global, line: &[u8]) -> Result<Vec<u8>> {
+        if line == COPY {
+            return self.copy(alloc);
+        }
         match read_line(alloc, line, &mut self.room) {
             Ok(line) => self.line(alloc, line),
             Err(Fault::Cause(cause)) => refused(alloc, cause, None),
@@ -64,13 +72,34 @@ impl Session {
 
     fn show(&self, alloc: Global, shown: Shown) -> Result<Vec<u8>> {
         let reply = match shown {
-            Shown::State | Shown::History | Shown::Slice => {
-                return refused(alloc, Cause::BadCommand, None);
-            }
+            Shown::State | Shown::History => return refused(alloc, Cause::BadCommand, None),
+            Shown::Slice => return self.show_slice(alloc),
             Shown::View => Reply::View(fresh(alloc, &self.state)?.print_html()?),
             Shown::Selection => Reply::Selection(self.state.selection.copy(alloc)?),
         };
         Ok(write_reply(alloc, &reply)?)
+    }
+
+    /// Shows what the selection covers.
+    fn show_slice(&self, alloc: Global) -> Result<Vec<u8>> {
+        if let Some(point) = lost_point(&self.state) {
+            return refused(alloc, Cause::SelectionLost(Lost::Point(point)), None);
+        }
+        let slice = slice(alloc, &self.state)?;
+        Ok(write_slice(alloc, slice)?)
+    }
+
+    /// Copies what is selected into a new document, and tells what that is. The session's own state stays.
+    fn copy(&self, alloc: Global) -> Result<Vec<u8>> {
+        if let Some(point) = lost_point(&self.state) {
+            return refused(alloc, Cause::SelectionLost(Lost::Point(point)), None);
+        }
+        match copied(alloc, &self.state) {
+            Ok(Some(frozen)) => tell(alloc, &frozen),
+            Ok(None) => Ok(write_slice(alloc, None)?),
+            Err(Fault::Cause(cause)) => refused(alloc, cause, None),
+            Err(Fault::Memory) => Err(NoMemory.into()),
+        }
     }
 
     /// Keeps what the steps leave, unless they are refused.
