@@ -30,9 +30,6 @@ use Rattle.lx_editor.specs.Updated.{IsMadeOf}
 pub room_for_rule : (old : Editor) → nat_lt (length old.rules) most_rules ≡ true → unless_full old ≡ with_nothing_pending old
 room_for_rule old fits = ap (λ b. record old { pending = if b then None else old.pending }) fits
 
-pub no_room_for_rule : (old : Editor) → nat_lt (length old.rules) most_rules ≡ false → unless_full old ≡ old
-no_room_for_rule old full = ap (λ b. record old { pending = if b then None else old.pending }) full
-
 -- where there is room for it
 pub rules_fit : (old : Editor) (n : ℕ) → n ≡ length old.rules → n < 258 → nat_lt (length old.rules) most_rules ≡ true
 rules_fit old n is less = let fits : nat_lt n 258 ≡ true = grind (arith, nat_tests) in subst (λ m. nat_lt m 258 ≡ true) is fits

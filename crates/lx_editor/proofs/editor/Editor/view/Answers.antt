@@ -14,7 +14,8 @@ returns c =
     record {
       html =
           subst (λ (d : Editor). IfOk c.print_html.result (λ html. html ≡ html_of (render d.tree))) c.self.view_is
-          (IfOk-weaker c.print_html.result (λ html. html ≡ html_of (first_tree (shape_of e.view.hosts))) (λ html. html ≡ html_of (render e.tree))
+          (IfOk-weaker c.print_html.result (λ html. html ≡ html_of (first_tree (shape_of e.view.hosts)))
+          (λ html. html ≡ html_of (render e.tree))
           (λ html is. is ∙ printed e.tree e.view c.self.invariant.valid.state.alone c.self.invariant.valid.shown)
           c.print_html.ensures.html);
     }
