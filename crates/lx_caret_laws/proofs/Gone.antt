@@ -1,0 +1,197 @@
+-- What is deleted in a text: exactly what the command names, and nothing else.
+use Rattle.lx_blocks.proofs.Steps.{attached_there}
+use Rattle.lx_blocks.specs.Blocks.{block_of, leading}
+use Rattle.lx_blocks.specs.Places.{covered, outermost, until}
+use Rattle.lx_blocks.specs.Ranges.{caret_at, characters_at, end_of, is_collapsed, normal_at, range_of, start_of}
+use Rattle.lx_blocks.specs.declared.ranges.Ranged.{Ranged}
+use Rattle.lx_caret.proofs.Fit.{after_tells}
+use Rattle.lx_caret.proofs.Lies.{text_at}
+use Rattle.lx_caret.specs.Deleting.{Reach, cluster_reach, delete_character_step, delete_step, delete_word_step, deleted_in, erase_step, erased, has_more, leaf_beside, leaf_or_line, word_reach}
+use Rattle.lx_caret.specs.Removing.{are_apart, cut_step, end_cut, merge_step, remove_between, remove_text_step, removed_below, removed_empty, removed_in, start_cut}
+use Rattle.lx_caret_laws.proofs.AtCaret.{collapsed, goes, ranged, taken}
+use Rattle.lx_caret_laws.proofs.Spliced.{only_reads, text_of_normal, text_few, was_spliced}
+use Rattle.lx_caret_laws.specs.Carets.{HasCaret, IsSound, OnlyReads, SelectsIn}
+use Rattle.lx_caret_laws.specs.Deleting.{DeletingIsExact, IsCaretIn, IsGone}
+use Rattle.lx_draft.specs.Faults.{after, text_in}
+use Rattle.lx_draft.specs.Selecting.{length_of, length_told}
+use Rattle.lx_draft.specs.Steps.{splice_points, splice_step}
+use Rattle.lx_draft.specs.Working.{Working}
+use Rattle.lx_edit.specs.Edits.{moved_to_end, text_point}
+use Rattle.lx_edit.specs.InTurn.{in_turn}
+use Rattle.lx_forest.proofs.Within.{is_within-self}
+use Rattle.lx_forest.specs.Forest.{Forest}
+use Rattle.lx_forest.specs.Lookups.{behind, is_attached, is_within, label_of}
+use Rattle.lx_node.specs.Limits.{last_u32}
+use Rattle.lx_node.specs.declared.cause.Cause.{Cause}
+use Rattle.lx_node.specs.declared.cause.Point.{Point}
+use Rattle.lx_node.specs.declared.cause.PointKind.TheVariants as point
+use Rattle.lx_node.specs.declared.fields.TextFields.{TextFields}
+use Rattle.lx_select.specs.Rules.{offset_sum, splice_moves, spliced_offset}
+use Rattle.lx_select.specs.Selection.{each_point}
+use Rattle.lx_select.specs.declared.selection.Selection.TheVariants.{Range}
+use Rattle.lx_text.proofs.Places.{offset_is}
+use Rattle.lx_text.proofs.Told.{offset_within, piece_of, pieces-whole, told-all, told-none}
+use Rattle.lx_text.specs.Texts.{front_of, rest_of, spliced_text, text_length}
+use Rattle.std.proofs.Common.{Bool, List, None, Ok, Option, Result, Some, [], ap, ap₂, append-nil, arith, cond, eqb, false, inl, inr, refl, subst, sym, true, ℕ, ◌++◌, ◌<◌, ◌∙◌, ◌∷◌, ◌≡◌, ◌≤◌, ◌⊎◌}
+use Rattle.std.proofs.lemmas.Bool.Decides.{eqb_tells, nat_tests}
+use Rattle.std.proofs.lemmas.Bool.{cases_Bool}
+use Rattle.lx_trees.specs.Siblings.{first_of}
+use Rattle.std.specs.Prelude.{filter, is_some, nat_le, nat_lt, not}
+
+-- ---- a piece that is cut out
+
+-- a point at either end of what is cut out is between what was before it and what was after it
+point_left : (k from to o : ℕ) → from ≤ to → from ≤ last_u32 → (o ≡ from) ⊎ (o ≡ to) → splice_moves k from to (length_told []) (text_point k o) ≡ text_point k from
+unfolding splice_moves spliced_offset offset_sum
+point_left k from to o order few (inl at) =
+    grind (arith, at, eqb_tells k k, nat_tests)
+point_left k from to o order few (inr at) =
+    let own : eqb k k ≡ true = grind (arith, eqb_tells k k) in
+    rw (own, at, told-none) (ap (text_point k) (grind (arith, order, few, nat_tests)))
+
+pub gone : (k from to o format : ℕ) (t : TextFields) (w v : Working) → IsSound w → text_in (label_of w.forest k) ≡ Some t
+    → HasCaret k o format w → (o ≡ from) ⊎ (o ≡ to) → splice_step k from to [] w ≡ Ok v → IsGone k from to format t.text w v
+unfolding spliced_text
+gone k from to o format t w v sound here caret ends e =
+    let s = was_spliced k from to [] t w v sound.short here e in
+    let piece = piece_of from to t.text s.piece in
+    let few : from ≤ last_u32 = omega (arith, offset_within from t.text piece.first, text_few w k t sound here) in
+    record {
+      parted = pieces-whole from to t.text s.piece;
+      length = offset_is from t.text piece.first;
+      read = subst (λ now. OnlyReads k now w.forest v.forest) (ap (λ cs. cs ++ rest_of to t.text) (append-nil (front_of from t.text)))
+          (subst (λ g. OnlyReads k (spliced_text from to [] t.text) w.forest g) (sym s.forest) (only_reads w.forest k t (spliced_text from to [] t.text) here));
+      caret = s.selection ∙ ap (splice_points k from to []) caret
+          ∙ ap (λ p. Range p p format) (point_left k from to o piece.in_order few ends);
+    }
+
+-- ---- a range in a text
+
+until_itself : (ks : List ℕ) → until (first_of ks) ks ≡ []
+until_itself [] = refl
+until_itself (k ∷ ks) = grind (arith, eqb_tells k k)
+
+-- nothing lies between two points of a text
+none_covered : (f : Forest) (k from to : ℕ) → covered f (text_point k from) (text_point k to) ≡ []
+none_covered f k from to = ap (filter (λ q. not (is_within f q k))) (until_itself (behind f k))
+
+-- a block isn't apart from itself
+not_apart : (f : Forest) (a : ℕ) → are_apart f a a ≡ false
+not_apart f a = elim (cases_Bool (is_attached f a)) [
+  | inl there ↦ grind (arith, there, is_within-self f a, attached_there f a there)
+  | inr out ↦ rw out refl
+]
+
+merged_itself : (o : Option ℕ) (w : Working) → merge_step o o w ≡ Ok w
+unfolding merge_step
+merged_itself None w = refl
+merged_itself (Some a) w =
+    ap (λ b. cond b (after (in_turn (moved_to_end a) (leading w.forest a) w) (removed_empty a)) (Ok w)) (not_apart w.forest a)
+
+-- what is between two points of a normal text is cut out, once the caret is at the first
+cut_between : (k from to : ℕ) (w v : Working) → from < to → is_some (normal_at w.forest k) ≡ true
+    → remove_between (text_point k from) (text_point k to) w ≡ Ok v → splice_step k from to [] (caret_at (text_point k from) w) ≡ Ok v
+unfolding remove_between cut_step in_turn
+cut_between k from to w v less normal e =
+    let start : Point = text_point k from in
+    let end : Point = text_point k to in
+    let u : Working = caret_at start w in
+    let b : Option ℕ = block_of w.forest k in
+    let own : eqb k k ≡ true = grind (arith, eqb_tells k k) in
+    let some : eqb from to ≡ false = grind (arith, less, eqb_tells from to) in
+    let cut : start_cut start end point.Text u ≡ splice_step k from to [] u = rw (own, some, normal) refl in
+    let rest : (c : Working) → after (in_turn removed_below (outermost w.forest (covered w.forest start end)) c)
+    (λ removed. after (end_cut start end point.Text removed) (merge_step b b)) ≡ Ok c =
+    λ c. ap (λ ks. after (in_turn removed_below (outermost w.forest ks) c) (λ removed. after (end_cut start end point.Text removed) (merge_step b b)))
+    (none_covered w.forest k from to)
+    ∙ ap (λ t. after (cond t (Ok c) (cut_step k 0 to c)) (merge_step b b)) own ∙ merged_itself b c in
+    let first = after_tells (start_cut start end point.Text u) (λ c. after (in_turn removed_below (outermost w.forest (covered w.forest start end)) c)
+    (λ removed. after (end_cut start end point.Text removed) (merge_step b b))) v e in
+    sym cut ∙ first.1.0 ∙ sym (rest first.0) ∙ first.1.1
+
+removed_gone : (k from to format : ℕ) (t : TextFields) (w v : Working) → IsSound w → normal_at w.forest k ≡ Some t → from < to
+    → (a b : ℕ) → SelectsIn k a b format w → remove_between (text_point k from) (text_point k to) w ≡ Ok v → IsGone k from to format t.text w v
+removed_gone k from to format t w v sound normal less a b selects e =
+    let u : Working = caret_at (text_point k from) w in
+    let caret : HasCaret k from format u = ap (each_point (λ p. text_point k from)) selects in
+    let told = gone k from to from format t u v (record { ready = record { in_order = sound.ready.in_order; free = sound.ready.free }; held = sound.held; short = sound.short; written = sound.written }) (text_of_normal w.forest k t normal) caret (inl refl)
+    (cut_between k from to w v less (ap is_some normal) e) in
+    record { parted = told.parted; length = told.length; read = told.read; caret = told.caret }
+
+forward : (k from to format : ℕ) (t : TextFields) (w v : Working) → IsSound w → normal_at w.forest k ≡ Some t → from < to
+    → SelectsIn k from to format w → remove_text_step w ≡ Ok v → IsGone k from to format t.text w v
+forward k from to format t w v sound normal less selects e =
+    let r : Ranged = ranged (text_point k from) (text_point k to) format in
+    let own : eqb k k ≡ true = grind (arith, eqb_tells k k) in
+    let order : nat_le from to ≡ true = grind (arith, less, nat_tests) in
+    let apart : is_collapsed r ≡ false = grind (arith, less, eqb_tells from to) in
+    let start : start_of w.forest r ≡ text_point k from = rw (own, order) refl in
+    let end : end_of w.forest r ≡ text_point k to = rw (own, order) refl in
+    let told = (goes k from to format w v selects e).removed in
+    removed_gone k from to format t w v sound normal less from to selects
+    (sym (ap₂ (λ p q. remove_between p q w) start end)
+    ∙ sym (ap (λ b. cond b (Ok w) (remove_between (start_of w.forest r) (end_of w.forest r) w)) apart) ∙ told)
+
+backward : (k from to format : ℕ) (t : TextFields) (w v : Working) → IsSound w → normal_at w.forest k ≡ Some t → from < to
+    → SelectsIn k to from format w → remove_text_step w ≡ Ok v → IsGone k from to format t.text w v
+backward k from to format t w v sound normal less selects e =
+    let r : Ranged = ranged (text_point k to) (text_point k from) format in
+    let own : eqb k k ≡ true = grind (arith, eqb_tells k k) in
+    let order : nat_le to from ≡ false = grind (arith, less, nat_tests) in
+    let apart : is_collapsed r ≡ false = grind (arith, less, eqb_tells to from) in
+    let start : start_of w.forest r ≡ text_point k from = rw (own, order) refl in
+    let end : end_of w.forest r ≡ text_point k to = rw (own, order) refl in
+    let told = (goes k to from format w v selects e).removed in
+    removed_gone k from to format t w v sound normal less to from selects
+    (sym (ap₂ (λ p q. remove_between p q w) start end)
+    ∙ sym (ap (λ b. cond b (Ok w) (remove_between (start_of w.forest r) (end_of w.forest r) w)) apart) ∙ told)
+
+-- ---- next to a caret
+
+-- what the reach goes over is cut out of a normal text in a block
+erased_at : (back : Bool) (reach : Reach) (k at format : ℕ) (t : TextFields) (w v : Working) → IsCaretIn k at format t w
+    → has_more back w.forest (text_point k at) point.Text ≡ true → delete_step back reach w ≡ Ok v → erased back reach k at (Some t) w ≡ Ok v
+unfolding delete_step erase_step
+erased_at back reach k at format t w v is more e =
+    let p : Point = text_point k at in
+    let r : Ranged = ranged p p format in
+    let first = after_tells (range_of w) (λ r. cond (is_collapsed r) (deleted_in back reach r.anchor (block_of w.forest r.anchor.key) w) (removed_in r w)) v e in
+    let took = taken k at at format w first.0 is.caret first.1.0 in
+    let same : first.0 ≡ r =
+    let both_are : ◌≡◌ {A = Result Ranged Cause} (Ok first.0) (Ok r) = sym first.1.0 ∙ took.is in cc in
+    let here : cond (is_collapsed r) (deleted_in back reach p (block_of w.forest k) w) (removed_in r w) ≡ Ok v =
+    ap (λ r. cond (is_collapsed r) (deleted_in back reach r.anchor (block_of w.forest r.anchor.key) w) (removed_in r w)) (sym same) ∙ first.1.1 in
+    let deleted : deleted_in back reach p (block_of w.forest k) w ≡ Ok v =
+    sym (ap (λ b. cond b (deleted_in back reach p (block_of w.forest k) w) (removed_in r w)) (collapsed k at format)) ∙ here in
+    let inside : deleted_in back reach p (Some is.block) w ≡ Ok v = sym (ap (λ o. deleted_in back reach p o w) is.within) ∙ deleted in
+    sym (ap (λ o. erased back reach k at o w) is.normal)
+    ∙ sym (ap (λ b. cond b (erased back reach k at (normal_at w.forest k) w) (leaf_or_line back reach is.block (leaf_beside back w.forest is.block p) w)) more)
+    ∙ inside
+
+gone_before : (reach : Reach) (k at format : ℕ) (t : TextFields) (w v : Working) → IsCaretIn k at format t w → 0 < at
+    → delete_step true reach w ≡ Ok v → IsGone k (reach t.text at) at format t.text w v
+gone_before reach k at format t w v is some e =
+    gone k (reach t.text at) at at format t w v is.sound (text_of_normal w.forest k t is.normal) is.caret (inr refl)
+    (erased_at true reach k at format t w v is (grind (arith, some, nat_tests)) e)
+
+gone_after : (reach : Reach) (k at format : ℕ) (t : TextFields) (w v : Working) → IsCaretIn k at format t w → at < text_length t.text
+    → delete_step false reach w ≡ Ok v → IsGone k at (reach t.text at) format t.text w v
+gone_after reach k at format t w v is some e =
+    let here : text_in (label_of w.forest k) ≡ Some t = text_of_normal w.forest k t is.normal in
+    let length : characters_at w.forest k ≡ text_length t.text =
+    ap length_of (text_at w.forest k t here).fields_are ∙ told-all t.text (text_few w k t is.sound here) in
+    let more : nat_lt at (characters_at w.forest k) ≡ true = grind (arith, length, some, nat_tests) in
+    gone k at (reach t.text at) at format t w v is.sound here is.caret (inl refl) (erased_at false reach k at format t w v is more e)
+
+-- ---- the laws
+
+pub told-deleting : DeletingIsExact
+unfolding delete_character_step delete_word_step
+told-deleting = record {
+  removed = λ k from to format t w v sound normal less selects e. forward k from to format t w v sound normal less selects e;
+  removed_back = λ k from to format t w v sound normal less selects e. backward k from to format t w v sound normal less selects e;
+  character_before = λ k at format t w v is some e. gone_before (cluster_reach true) k at format t w v is some e;
+  character_after = λ k at format t w v is some e. gone_after (cluster_reach false) k at format t w v is some e;
+  word_before = λ k at format t w v is some e. gone_before (word_reach true) k at format t w v is some e;
+  word_after = λ k at format t w v is some e. gone_after (word_reach false) k at format t w v is some e;
+}

@@ -1,0 +1,4 @@
+pub mod AtCaret
+pub mod Gone
+pub mod Spliced
+pub mod TypedIn

@@ -1,0 +1,45 @@
+-- What it means to delete in a text.
+use Rattle.std.specs.Prelude.{ℕ, ◌≡◌, ◌<◌, ◌++◌, true, false, List, Some, Ok}
+use Rattle.lx_node.specs.declared.fields.TextFields.{TextFields}
+use Rattle.lx_text.specs.Texts.{text_length, front_of, rest_of, slice_of}
+use Rattle.lx_text.specs.Clusters.{cluster_before, cluster_after, word_before, word_after}
+use Rattle.lx_draft.specs.Working.{Working}
+use Rattle.lx_blocks.specs.Blocks.{block_of}
+use Rattle.lx_blocks.specs.Ranges.{normal_at}
+use Rattle.lx_caret.specs.Removing.{remove_text_step}
+use Rattle.lx_caret.specs.Deleting.{delete_character_step, delete_word_step}
+use Rattle.lx_caret_laws.specs.Carets.{IsSound, SelectsIn, HasCaret, OnlyReads}
+
+-- exactly what a text had between two offsets is gone: it reads what was before it and what was after it, the caret stands
+-- between, and nothing else changed
+pub record IsGone (k from to format : ℕ) (text : List ℕ) (w v : Working) : Type 0 where
+  pub parted : front_of from text ++ slice_of from to text ++ rest_of to text ≡ text
+  pub length : text_length (front_of from text) ≡ from
+  pub read : OnlyReads k (front_of from text ++ rest_of to text) w.forest v.forest
+  pub caret : HasCaret k from format v
+
+-- a caret in a normal text that is in a block
+pub record IsCaretIn (k at format : ℕ) (text : TextFields) (w : Working) : Type 0 where
+  pub sound : IsSound w
+  pub normal : normal_at w.forest k ≡ Some text
+  pub block : ℕ
+  pub within : block_of w.forest k ≡ Some block
+  pub caret : HasCaret k at format w
+
+-- what is selected in a text is removed, and a cluster or word beside the caret is deleted, exactly
+pub record DeletingIsExact : Type 0 where
+  -- what is selected in a normal text, whichever point comes first
+  pub removed : (k from to format : ℕ) (text : TextFields) (w v : Working) → IsSound w → normal_at w.forest k ≡ Some text → from < to →
+      SelectsIn k from to format w → remove_text_step w ≡ Ok v → IsGone k from to format text.text w v
+  pub removed_back : (k from to format : ℕ) (text : TextFields) (w v : Working) → IsSound w → normal_at w.forest k ≡ Some text → from < to →
+      SelectsIn k to from format w → remove_text_step w ≡ Ok v → IsGone k from to format text.text w v
+  -- the cluster before the caret, where there are characters before it in the text, and the one after it, where there are some
+  pub character_before : (k at format : ℕ) (text : TextFields) (w v : Working) → IsCaretIn k at format text w → 0 < at →
+      delete_character_step true w ≡ Ok v → IsGone k (cluster_before text.text at) at format text.text w v
+  pub character_after : (k at format : ℕ) (text : TextFields) (w v : Working) → IsCaretIn k at format text w → at < text_length text.text →
+      delete_character_step false w ≡ Ok v → IsGone k at (cluster_after text.text at) format text.text w v
+  -- the word before the caret, and the one after it
+  pub word_before : (k at format : ℕ) (text : TextFields) (w v : Working) → IsCaretIn k at format text w → 0 < at →
+      delete_word_step true w ≡ Ok v → IsGone k (word_before text.text at) at format text.text w v
+  pub word_after : (k at format : ℕ) (text : TextFields) (w v : Working) → IsCaretIn k at format text w → at < text_length text.text →
+      delete_word_step false w ≡ Ok v → IsGone k at (word_after text.text at) format text.text w v

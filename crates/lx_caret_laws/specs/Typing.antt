@@ -1,0 +1,27 @@
+-- What it means to type at a caret.
+use Rattle.std.specs.Prelude.{ℕ, ◌≡◌, ◌+◌, ◌++◌, List, Some, Ok}
+use Rattle.lx_node.specs.declared.fields.TextFields.{TextFields}
+use Rattle.lx_text.specs.Texts.{text_length, front_of, rest_of}
+use Rattle.lx_draft.specs.Working.{Working}
+use Rattle.lx_blocks.specs.Ranges.{normal_at}
+use Rattle.lx_caret.specs.Inserting.{insert_text_step}
+use Rattle.lx_caret_laws.specs.Carets.{IsSound, HasCaret, OnlyReads}
+
+-- this was typed in the draft w, at a caret in a normal text of the caret's format, which left the draft v
+pub record IsTyped (typed : List ℕ) (k at : ℕ) (text : TextFields) (w v : Working) : Type 0 where
+  pub sound : IsSound w
+  pub normal : normal_at w.forest k ≡ Some text
+  pub caret : HasCaret k at text.format w
+  pub done : insert_text_step typed w ≡ Ok v
+
+-- what is typed is read at the caret, which stands after it then, and nothing else changes
+pub record TypingIsRead : Type 0 where
+  -- the text falls into what is before the caret and what is after it ..
+  pub parted : (typed : List ℕ) (k at : ℕ) (text : TextFields) (w v : Working) → IsTyped typed k at text w v →
+      (front_of at text.text ++ rest_of at text.text ≡ text.text) × (text_length (front_of at text.text) ≡ at)
+  -- .. between which it reads what is typed, and nothing else changes
+  pub read : (typed : List ℕ) (k at : ℕ) (text : TextFields) (w v : Working) → IsTyped typed k at text w v →
+      OnlyReads k (front_of at text.text ++ typed ++ rest_of at text.text) w.forest v.forest
+  -- the caret stands after it
+  pub caret : (typed : List ℕ) (k at : ℕ) (text : TextFields) (w v : Working) → IsTyped typed k at text w v →
+      HasCaret k (at + text_length typed) text.format v
