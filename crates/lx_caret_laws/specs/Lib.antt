@@ -1,3 +1,5 @@
 pub mod Carets
 pub mod Deleting
+pub mod Formatting
+pub mod Reading
 pub mod Typing

@@ -4,7 +4,9 @@
 #![tactic(auto)]
 
 mod deleting;
+mod formatting;
 mod typing;
 
 pub use deleting::deleting_is_exact;
+pub use formatting::formatting_keeps_text;
 pub use typing::typing_is_read;

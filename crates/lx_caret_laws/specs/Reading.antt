@@ -1,0 +1,47 @@
+-- What is read in a node: the characters of its texts and tabs in their order, and the places among them.
+use Rattle.std.specs.Prelude.{ℕ, ◌+◌, ◌==◌, ◌≡◌, true, if◌then◌else◌, take, List, [], ◌∷◌, ◌++◌}
+use Rattle.lx_node.specs.Kinds.{is_element}
+use Rattle.lx_node.specs.declared.cause.Point.{Point}
+use Rattle.lx_node.specs.declared.cause.PointKind.{PointKind}
+use Rattle.lx_node.specs.declared.cause.PointKind.TheVariants as point
+use Rattle.lx_text.specs.Texts.{text_length}
+use Rattle.lx_forest.specs.Forest.{Forest}
+use Rattle.lx_forest.specs.Lookups.{fields_of, children_of, keys_within}
+use Rattle.lx_draft.specs.Selecting.{text_of}
+use Rattle.lx_blocks.specs.Blocks.{is_at}
+
+-- what a node says: the characters of a text or tab, and none of any other
+abbrev pub said : Forest → ℕ → List ℕ
+said f k = text_of (fields_of f k)
+
+-- what nodes say, one after another
+abbrev pub said_by : Forest → List ℕ → List ℕ
+said_by f [] = []
+said_by f (k ∷ ks) = said f k ++ said_by f ks
+
+-- what is read in a node: what the nodes of its tree say, in preorder
+abbrev pub read_in : Forest → ℕ → List ℕ
+read_in f k = said_by f (keys_within f k)
+
+-- what is read in nodes, one after another
+abbrev pub reads_in : Forest → List ℕ → List ℕ
+reads_in f [] = []
+reads_in f (k ∷ ks) = read_in f k ++ reads_in f ks
+
+-- how much is read of a point's own node before it: up to the offset in a text, and in as many children of an element
+abbrev pub place_on : Forest → Point → PointKind → ℕ
+place_on f p point.Text = p.offset
+place_on f p point.Element = text_length (reads_in f (take p.offset (children_of f p.key)))
+
+-- how much is read before a point that is on one of these nodes
+abbrev pub place_along : Forest → Point → List ℕ → ℕ
+place_along f p [] = 0
+place_along f p (k ∷ ks) = if p.key == k then place_on f p p.kind else text_length (said f k) + place_along f p ks
+
+-- where a point is in what is read in a node
+abbrev pub place_in : Forest → ℕ → Point → ℕ
+place_in f b p = place_along f p (keys_within f b)
+
+-- in every element, such as a block, a cell or the root, the same is read in g as in f
+pub record ReadsTheSame (f g : Forest) : Type 0 where
+  pub each : (b : ℕ) → is_at is_element f b ≡ true → read_in g b ≡ read_in f b
