@@ -6,6 +6,7 @@ use Rattle.lx_caret.proofs.Fit.{Fit, Stays, after_tells, stays_ok, stays_self, s
 use Rattle.lx_caret.proofs.Lies.{text_at}
 use Rattle.lx_caret.proofs.Splits.{stays_split}
 use Rattle.lx_caret.specs.Formatting.{Isolated, and_before, edges, format_at, format_text_step, formatted, has_bit, isolate_step, isolated, isolated_key, pieces, selection_format, switch_step, switched, switched_all, switched_in}
+use Rattle.lx_caret_laws.proofs.EditedIn.{apart_from, there_by}
 use Rattle.lx_caret_laws.proofs.ReadLevels.{reads_alike}
 use Rattle.lx_caret_laws.proofs.Spliced.{text_of_normal}
 use Rattle.lx_caret_laws.proofs.SplitSaid.{split_read}
@@ -66,17 +67,6 @@ unread_ok w v fit e = subst (Unread w) (was_same w v e) (unread_self w fit)
 
 -- ---- a piece by itself
 
--- an element isn't a text
-apart_from : (f : Forest) (k b : ℕ) (t : TextFields) → kind_of f k ≡ Some kinds.Text → is_at is_element f b ≡ true → b ≢ k
-unfolding is_element
-apart_from f k b t text e same = let bad : false ≡ true = sym (ap (passes is_element) (ap (kind_of f) same ∙ text)) ∙ e in absurd (cc)
-
-there_by : (f : Forest) (b : ℕ) → is_at is_element f b ≡ true → has b f ≡ true
-there_by f b e = by_kind (kind_of f b) refl e where
-  by_kind : (o : Option Kind) → kind_of f b ≡ o → passes is_element o ≡ true → has b f ≡ true
-  by_kind None is e = absurd (cc)
-  by_kind (Some kind) is e = sym (is_some-kind_of f b) ∙ ap is_some is
-
 isolate_unread : (p : _) (w v : Working) → Fit w → isolate_step p w ≡ Ok v → Unread w v
 unfolding isolate_step
 isolate_unread p w v fit e = by_text (normal_at w.forest p.key) refl e where
@@ -89,7 +79,7 @@ isolate_unread p w v fit e = by_text (normal_at w.forest p.key) refl e where
         stays = stays_split p.key (edges w.forest p) w v fit e;
         same = record {
           each = λ b element. split_read p.key (edges w.forest p) t w v fit.ready fit.held fit.short here e b
-              (apart_from w.forest p.key b t text element) (there_by w.forest b element);
+              (apart_from w.forest p.key b text element) (there_by w.forest b element);
         };
       }
 

@@ -9,6 +9,8 @@ use Rattle.lx_caret.proofs.Lies.{text_at}
 use Rattle.lx_caret.specs.Deleting.{Reach, cluster_reach, delete_character_step, delete_step, delete_word_step, deleted_in, erase_step, erased, has_more, leaf_beside, leaf_or_line, word_reach}
 use Rattle.lx_caret.specs.Removing.{are_apart, cut_step, end_cut, merge_step, remove_between, remove_text_step, removed_below, removed_empty, removed_in, start_cut}
 use Rattle.lx_caret_laws.proofs.AtCaret.{collapsed, goes, ranged, taken}
+use Rattle.lx_caret_laws.proofs.EditedIn.{edited_around}
+use Rattle.lx_forest.proofs.Order.{IsForest-with_fields}
 use Rattle.lx_caret_laws.proofs.Spliced.{only_reads, text_of_normal, text_few, was_spliced}
 use Rattle.lx_caret_laws.specs.Carets.{HasCaret, IsSound, OnlyReads, SelectsIn}
 use Rattle.lx_caret_laws.specs.Deleting.{DeletingIsExact, IsCaretIn, IsGone}
@@ -20,7 +22,7 @@ use Rattle.lx_edit.specs.Edits.{moved_to_end, text_point}
 use Rattle.lx_edit.specs.InTurn.{in_turn}
 use Rattle.lx_forest.proofs.Within.{is_within-self}
 use Rattle.lx_forest.specs.Forest.{Forest}
-use Rattle.lx_forest.specs.Lookups.{behind, is_attached, is_within, label_of}
+use Rattle.lx_forest.specs.Lookups.{IsForest, behind, is_attached, is_within, label_of}
 use Rattle.lx_node.specs.Limits.{last_u32}
 use Rattle.lx_node.specs.declared.cause.Cause.{Cause}
 use Rattle.lx_node.specs.declared.cause.Point.{Point}
@@ -63,6 +65,9 @@ gone k from to o format t w v sound here caret ends e =
           (subst (λ g. OnlyReads k (spliced_text from to [] t.text) w.forest g) (sym s.forest) (only_reads w.forest k t (spliced_text from to [] t.text) here));
       caret = s.selection ∙ ap (splice_points k from to []) caret
           ∙ ap (λ p. Range p p format) (point_left k from to o piece.in_order few ends);
+      around = edited_around w.forest v.forest k from to [] t sound.ready.in_order (subst IsForest (sym s.forest) (IsForest-with_fields k _ w.forest sound.ready.in_order))
+          sound.held here s.piece
+          (subst (λ g. OnlyReads k (spliced_text from to [] t.text) w.forest g) (sym s.forest) (only_reads w.forest k t (spliced_text from to [] t.text) here));
     }
 
 -- ---- a range in a text
@@ -116,7 +121,7 @@ removed_gone k from to format t w v sound normal less a b selects e =
     let caret : HasCaret k from format u = ap (each_point (λ p. text_point k from)) selects in
     let told = gone k from to from format t u v (record { ready = record { in_order = sound.ready.in_order; free = sound.ready.free }; held = sound.held; short = sound.short; written = sound.written }) (text_of_normal w.forest k t normal) caret (inl refl)
     (cut_between k from to w v less (ap is_some normal) e) in
-    record { parted = told.parted; length = told.length; read = told.read; caret = told.caret }
+    record { parted = told.parted; length = told.length; read = told.read; caret = told.caret; around = told.around }
 
 forward : (k from to format : ℕ) (t : TextFields) (w v : Working) → IsSound w → normal_at w.forest k ≡ Some t → from < to
     → SelectsIn k from to format w → remove_text_step w ≡ Ok v → IsGone k from to format t.text w v

@@ -1,6 +1,8 @@
 pub mod AtCaret
+pub mod EditedIn
 pub mod Formatted
 pub mod Gone
+pub mod InPlace
 pub mod ReadLevels
 pub mod Spliced
 pub mod SplitSaid

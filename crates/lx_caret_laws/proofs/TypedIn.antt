@@ -4,6 +4,8 @@ use Rattle.lx_caret.proofs.Fit.{after_tells}
 use Rattle.lx_caret.specs.Inserting.{insert_text_step, is_of_format, typed, typed_into, typed_new}
 use Rattle.lx_caret.specs.Removing.{remove_text_step}
 use Rattle.lx_caret_laws.proofs.AtCaret.{IsTaken, at_caret, place_lies}
+use Rattle.lx_caret_laws.proofs.EditedIn.{edited_around}
+use Rattle.lx_forest.proofs.Order.{IsForest-with_fields}
 use Rattle.lx_caret_laws.proofs.Spliced.{only_reads, reads_itself, text_of_normal, was_spliced}
 use Rattle.lx_caret_laws.specs.Carets.{HasCaret, OnlyReads}
 use Rattle.lx_caret_laws.specs.Typing.{IsTyped, TypingIsRead}
@@ -14,7 +16,7 @@ use Rattle.lx_draft.specs.Working.{Working}
 use Rattle.lx_edit.specs.Edits.{text_point}
 use Rattle.lx_edit.specs.Texts.{has_no_text}
 use Rattle.lx_edit_laws.proofs.WrapSteps.{was_same}
-use Rattle.lx_forest.specs.Lookups.{label_of}
+use Rattle.lx_forest.specs.Lookups.{IsForest, label_of}
 use Rattle.lx_node.specs.Limits.{last_u32}
 use Rattle.lx_node.specs.declared.cause.Point.{Point}
 use Rattle.lx_node.specs.declared.fields.TextFields.{TextFields}
@@ -23,9 +25,9 @@ use Rattle.lx_select.specs.Selection.{each_point}
 use Rattle.lx_select.specs.declared.selection.Selection.TheVariants.{Range}
 use Rattle.lx_text.proofs.Places.{length-none, offset_is, parts}
 use Rattle.lx_text.proofs.Told.{offset_within, piece_of, splice-length, told-all}
-use Rattle.lx_text.specs.Texts.{front_of, rest_of, slice_fault, spliced_text, text_length}
+use Rattle.lx_text.specs.Texts.{front_of, is_offset, rest_of, slice_fault, spliced_text, text_length}
 use Rattle.std.proofs.Common.{List, None, Ok, Some, [], ap, append-nil, arith, cond, subst, sym, true, ℕ, ◌++◌, ◌+◌, ◌∙◌, ◌∷◌, ◌≡◌, ◌≤◌}
-use Rattle.std.proofs.lemmas.Bool.Decides.{eqb_tells}
+use Rattle.std.proofs.lemmas.Bool.Decides.{eqb_tells, nat_tests}
 
 -- ---- offsets
 
@@ -45,6 +47,8 @@ behind_typed typed text at piece few =
 pub record IsInto (typed : List ℕ) (k at : ℕ) (t : TextFields) (w v : Working) : Type 0 where
   pub read : OnlyReads k (front_of at t.text ++ typed ++ rest_of at t.text) w.forest v.forest
   pub caret : HasCaret k (at + text_length typed) t.format v
+  pub piece : slice_fault t.text at at ≡ None
+  pub ordered : IsForest v.forest
 
 into : (typed : List ℕ) (k at : ℕ) (t : TextFields) (w v : Working) → IsTyped typed k at t w v → typed_into typed (text_point k at) w ≡ Ok v
     → IsInto typed k at t w v
@@ -61,16 +65,23 @@ into typed k at t w v is e =
       caret = sym (ap (λ u. u.selection) left)
           ∙ ap (each_point (λ p. there)) (s.selection ∙ ap (splice_points k at at typed) is.caret)
           ∙ ap (λ o. Range (text_point k o) (text_point k o) t.format) (behind_typed typed t.text at s.piece s.few);
+      piece = s.piece;
+      ordered = subst IsForest (sym s.forest ∙ ap (λ u. u.forest) left) (IsForest-with_fields k _ w.forest is.sound.ready.in_order);
     }
 
-none_typed : (k at : ℕ) (t : TextFields) (w v : Working) → IsTyped [] k at t w v → w ≡ v → IsInto [] k at t w v
-none_typed k at t w v is same =
+no_fault_at : (text : List ℕ) (at : ℕ) → is_offset at text ≡ true → slice_fault text at at ≡ None
+no_fault_at text at e = grind (arith, nat_tests, e)
+
+none_typed : (k at : ℕ) (t : TextFields) (w v : Working) → IsTyped [] k at t w v → is_offset at t.text ≡ true → w ≡ v → IsInto [] k at t w v
+none_typed k at t w v is place same =
     let here : text_in (label_of w.forest k) ≡ Some t = text_of_normal w.forest k t is.normal in
     let all : t.text ≡ front_of at t.text ++ [] ++ rest_of at t.text =
     sym (ap (λ cs. cs ++ rest_of at t.text) (append-nil (front_of at t.text)) ∙ parts at t.text) in
     subst (IsInto [] k at t w) same (record {
       read = subst (λ now. OnlyReads k now w.forest w.forest) all (reads_itself w.forest k t here);
       caret = is.caret ∙ ap (λ o. Range (text_point k o) (text_point k o) t.format) (omega (arith, length-none));
+      piece = no_fault_at t.text at place;
+      ordered = is.sound.ready.in_order;
     })
 
 -- the command
@@ -95,10 +106,11 @@ is_read text k at t w v is =
     let caret = at_caret k at t.format w first.0 is.caret first.1.0 in
     let next : cond (has_no_text text) (Ok w) (at_anchor (typed text) w) ≡ Ok v =
     ap (λ u. cond (has_no_text text) (Ok u) (at_anchor (typed text) u)) caret.1 ∙ first.1.1 in
-    record { taken = caret.0; into = by_text text is next } where
-      by_text : (text : List ℕ) → IsTyped text k at t w v → cond (has_no_text text) (Ok w) (at_anchor (typed text) w) ≡ Ok v → IsInto text k at t w v
-      by_text [] is next = none_typed k at t w v is (was_same w v next)
-      by_text (c ∷ cs) is next = into (c ∷ cs) k at t w v is (by_format (c ∷ cs) k at t w v is next)
+    let place = place_lies w.forest k at t (text_of_normal w.forest k t is.normal) caret.0.anchor in
+    record { taken = caret.0; into = by_text place.0 text is next } where
+      by_text : is_offset at t.text ≡ true → (text : List ℕ) → IsTyped text k at t w v → cond (has_no_text text) (Ok w) (at_anchor (typed text) w) ≡ Ok v → IsInto text k at t w v
+      by_text place [] is next = none_typed k at t w v is place (was_same w v next)
+      by_text place (c ∷ cs) is next = into (c ∷ cs) k at t w v is (by_format (c ∷ cs) k at t w v is next)
 
 pub told-typing : TypingIsRead
 told-typing = record {
@@ -106,5 +118,9 @@ told-typing = record {
       let place = place_lies w.forest k at t (text_of_normal w.forest k t is.normal) (is_read typed k at t w v is).taken.anchor in
       (parts at t.text, offset_is at t.text place.0);
   read = λ typed k at t w v is. (is_read typed k at t w v is).into.read;
+  around = λ typed k at t w v is.
+      let into = (is_read typed k at t w v is).into in
+      edited_around w.forest v.forest k at at typed t is.sound.ready.in_order into.ordered is.sound.held (text_of_normal w.forest k t is.normal) into.piece
+      into.read;
   caret = λ typed k at t w v is. (is_read typed k at t w v is).into.caret;
 }

@@ -1,5 +1,5 @@
 -- What it means to delete in a text.
-use Rattle.std.specs.Prelude.{ℕ, ◌≡◌, ◌<◌, ◌++◌, true, false, List, Some, Ok}
+use Rattle.std.specs.Prelude.{ℕ, ◌≡◌, ◌<◌, ◌++◌, true, false, List, [], Some, Ok}
 use Rattle.lx_node.specs.declared.fields.TextFields.{TextFields}
 use Rattle.lx_text.specs.Texts.{text_length, front_of, rest_of, slice_of}
 use Rattle.lx_text.specs.Clusters.{cluster_before, cluster_after, word_before, word_after}
@@ -8,15 +8,18 @@ use Rattle.lx_blocks.specs.Blocks.{block_of}
 use Rattle.lx_blocks.specs.Ranges.{normal_at}
 use Rattle.lx_caret.specs.Removing.{remove_text_step}
 use Rattle.lx_caret.specs.Deleting.{delete_character_step, delete_word_step}
+use Rattle.lx_edit.specs.Edits.{text_point}
+use Rattle.lx_caret_laws.specs.Reading.{ReadsBetween}
 use Rattle.lx_caret_laws.specs.Carets.{IsSound, SelectsIn, HasCaret, OnlyReads}
 
 -- exactly what a text had between two offsets is gone: it reads what was before it and what was after it, the caret stands
--- between, and nothing else changed
+-- between, and nothing else changed; so in each element around, what is read is without it
 pub record IsGone (k from to format : ℕ) (text : List ℕ) (w v : Working) : Type 0 where
   pub parted : front_of from text ++ slice_of from to text ++ rest_of to text ≡ text
   pub length : text_length (front_of from text) ≡ from
   pub read : OnlyReads k (front_of from text ++ rest_of to text) w.forest v.forest
   pub caret : HasCaret k from format v
+  pub around : ReadsBetween (text_point k from) (text_point k to) [] w.forest v.forest
 
 -- a caret in a normal text that is in a block
 pub record IsCaretIn (k at format : ℕ) (text : TextFields) (w : Working) : Type 0 where

@@ -1,12 +1,12 @@
 -- What is read in a node: the characters of its texts and tabs in their order, and the places among them.
-use Rattle.std.specs.Prelude.{ℕ, ◌+◌, ◌==◌, ◌≡◌, true, if◌then◌else◌, take, List, [], ◌∷◌, ◌++◌}
+use Rattle.std.specs.Prelude.{ℕ, ◌+◌, ◌==◌, ◌≡◌, ◌≤◌, true, false, if◌then◌else◌, take, List, [], ◌∷◌, ◌++◌}
 use Rattle.lx_node.specs.Kinds.{is_element}
 use Rattle.lx_node.specs.declared.cause.Point.{Point}
 use Rattle.lx_node.specs.declared.cause.PointKind.{PointKind}
 use Rattle.lx_node.specs.declared.cause.PointKind.TheVariants as point
-use Rattle.lx_text.specs.Texts.{text_length}
+use Rattle.lx_text.specs.Texts.{text_length, is_offset, front_of, rest_of}
 use Rattle.lx_forest.specs.Forest.{Forest}
-use Rattle.lx_forest.specs.Lookups.{fields_of, children_of, keys_within}
+use Rattle.lx_forest.specs.Lookups.{fields_of, children_of, keys_within, is_within}
 use Rattle.lx_draft.specs.Selecting.{text_of}
 use Rattle.lx_blocks.specs.Blocks.{is_at}
 
@@ -41,6 +41,17 @@ place_along f p (k ∷ ks) = if p.key == k then place_on f p p.kind else text_le
 -- where a point is in what is read in a node
 abbrev pub place_in : Forest → ℕ → Point → ℕ
 place_in f b p = place_along f p (keys_within f b)
+
+-- What is read in g, where new characters came to what lay between two points of f: in each element that both are in, such as
+-- their block or the root, what was read before the first, the new ones, and what was read after the second; and in each other
+-- element, what was read there.
+pub record ReadsBetween (p q : Point) (new : List ℕ) (f g : Forest) : Type 0 where
+  pub places : (b : ℕ) → is_at is_element f b ≡ true → is_within f b p.key ≡ true → is_within f b q.key ≡ true →
+      (is_offset (place_in f b p) (read_in f b) ≡ true) × (is_offset (place_in f b q) (read_in f b) ≡ true) × (place_in f b p ≤ place_in f b q)
+  pub around : (b : ℕ) → is_at is_element f b ≡ true → is_within f b p.key ≡ true → is_within f b q.key ≡ true →
+      read_in g b ≡ front_of (place_in f b p) (read_in f b) ++ new ++ rest_of (place_in f b q) (read_in f b)
+  pub elsewhere : (b : ℕ) → is_at is_element f b ≡ true → is_within f b p.key ≡ false → is_within f b q.key ≡ false →
+      read_in g b ≡ read_in f b
 
 -- in every element, such as a block, a cell or the root, the same is read in g as in f
 pub record ReadsTheSame (f g : Forest) : Type 0 where

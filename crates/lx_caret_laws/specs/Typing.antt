@@ -5,6 +5,8 @@ use Rattle.lx_text.specs.Texts.{text_length, front_of, rest_of}
 use Rattle.lx_draft.specs.Working.{Working}
 use Rattle.lx_blocks.specs.Ranges.{normal_at}
 use Rattle.lx_caret.specs.Inserting.{insert_text_step}
+use Rattle.lx_edit.specs.Edits.{text_point}
+use Rattle.lx_caret_laws.specs.Reading.{ReadsBetween}
 use Rattle.lx_caret_laws.specs.Carets.{IsSound, HasCaret, OnlyReads}
 
 -- this was typed in the draft w, at a caret in a normal text of the caret's format, which left the draft v
@@ -22,6 +24,9 @@ pub record TypingIsRead : Type 0 where
   -- .. between which it reads what is typed, and nothing else changes
   pub read : (typed : List ℕ) (k at : ℕ) (text : TextFields) (w v : Working) → IsTyped typed k at text w v →
       OnlyReads k (front_of at text.text ++ typed ++ rest_of at text.text) w.forest v.forest
+  -- so in each element around it is read between what was read before the caret and what was read after it
+  pub around : (typed : List ℕ) (k at : ℕ) (text : TextFields) (w v : Working) → IsTyped typed k at text w v →
+      ReadsBetween (text_point k at) (text_point k at) typed w.forest v.forest
   -- the caret stands after it
   pub caret : (typed : List ℕ) (k at : ℕ) (text : TextFields) (w v : Working) → IsTyped typed k at text w v →
       HasCaret k (at + text_length typed) text.format v
