@@ -7,7 +7,7 @@ use Rattle.lx_caret.proofs.Lies.{both, text_at}
 use Rattle.lx_caret.specs.Removing.{remove_between, remove_text_step, removed_in}
 use Rattle.lx_edit_laws.proofs.WrapSteps.{was_same}
 use Rattle.lx_node.specs.declared.cause.Cause.{Cause}
-use Rattle.lx_caret_laws.specs.Carets.{HasCaret, SelectsIn}
+use Rattle.lx_caret.specs.Lying.{IsLying}
 use Rattle.lx_draft.specs.Faults.{text_in}
 use Rattle.lx_draft.specs.Selecting.{is_counted_in, is_place, length_of, length_told, lies_in, text_of}
 use Rattle.lx_draft.specs.Working.{Working}
@@ -46,45 +46,49 @@ range_is f a b format r e = by_test (is_fit f a b) e where
   by_test true e = cc
   by_test false e = absurd (cc)
 
--- what is taken of a selection in a text
-pub record IsTaken (k a b format : ℕ) (w : Working) : Type 0 where
-  pub is : range_of w ≡ Ok (ranged (text_point k a) (text_point k b) format)
-  pub anchor : lies w.forest (text_point k a) ≡ true
-  pub focus : lies w.forest (text_point k b) ≡ true
+-- what is taken of a selection
+pub record IsTaken (a b : Point) (format : ℕ) (w : Working) : Type 0 where
+  pub is : range_of w ≡ Ok (ranged a b format)
+  pub anchor : lies w.forest a ≡ true
+  pub focus : lies w.forest b ≡ true
+  pub lying : IsLying w
 
-pub taken : (k a b format : ℕ) (w : Working) (r : Ranged) → SelectsIn k a b format w → range_of w ≡ Ok r → IsTaken k a b format w
+pub taken : (a b : Point) (format : ℕ) (w : Working) (r : Ranged) → w.selection ≡ Range a b format → range_of w ≡ Ok r → IsTaken a b format w
 unfolding range_of
-taken k a b format w r selects e =
-    let same : ranged (text_point k a) (text_point k b) format ≡ r =
-    range_is w.forest (text_point k a) (text_point k b) format r (sym (ap (range_in w.forest) selects) ∙ e) in
+taken a b format w r selects e =
+    let same : ranged a b format ≡ r = range_is w.forest a b format r (sym (ap (range_in w.forest) selects) ∙ e) in
     let lying = range_lies w r e in
     record {
       is = e ∙ ap (λ x. Ok x) (sym same);
       anchor = ap (λ x. lies w.forest x.anchor) same ∙ lying.anchor;
       focus = ap (λ x. lies w.forest x.focus) same ∙ lying.focus;
+      lying = lying.lying;
     }
 
-pub collapsed : (k at format : ℕ) → is_collapsed (ranged (text_point k at) (text_point k at) format) ≡ true
-collapsed k at format = grind (arith, eqb_tells k k, eqb_tells at at)
+pub collapsed : (p : Point) (format : ℕ) → is_collapsed (ranged p p format) ≡ true
+collapsed p format = grind (arith, eqb_tells p.key p.key, eqb_tells p.offset p.offset)
 
--- what is done with a selection in a text
-pub record Goes (k a b format : ℕ) (w v : Working) : Type 0 where
-  pub is : IsTaken k a b format w
-  pub removed : removed_in (ranged (text_point k a) (text_point k b) format) w ≡ Ok v
+-- what is done with a selection
+pub record Goes (a b : Point) (format : ℕ) (w v : Working) : Type 0 where
+  pub is : IsTaken a b format w
+  pub removed : removed_in (ranged a b format) w ≡ Ok v
 
-pub goes : (k a b format : ℕ) (w v : Working) → SelectsIn k a b format w → remove_text_step w ≡ Ok v → Goes k a b format w v
+pub goes : (a b : Point) (format : ℕ) (w v : Working) → w.selection ≡ Range a b format → remove_text_step w ≡ Ok v → Goes a b format w v
 unfolding remove_text_step
-goes k a b format w v selects e =
+goes a b format w v selects e =
     let first = after_tells (range_of w) (λ r. removed_in r w) v e in
-    let is = taken k a b format w first.0 selects first.1.0 in
-    let same : first.0 ≡ ranged (text_point k a) (text_point k b) format =
-    let both_are : ◌≡◌ {A = Result Ranged Cause} (Ok first.0) (Ok (ranged (text_point k a) (text_point k b) format)) = sym first.1.0 ∙ is.is in cc in
+    let is = taken a b format w first.0 selects first.1.0 in
+    let same : first.0 ≡ ranged a b format =
+    let both_are : ◌≡◌ {A = Result Ranged Cause} (Ok first.0) (Ok (ranged a b format)) = sym first.1.0 ∙ is.is in cc in
     record { is = is; removed = ap (λ r. removed_in r w) (sym same) ∙ first.1.1 }
 
 -- nothing is removed at a caret
-pub at_caret : (k at format : ℕ) (w v : Working) → HasCaret k at format w → remove_text_step w ≡ Ok v → IsTaken k at at format w × (w ≡ v)
-at_caret k at format w v caret e =
-    let told = goes k at at format w v caret e in
-    let r : Ranged = ranged (text_point k at) (text_point k at) format in
+pub at_caret : (p : Point) (format : ℕ) (w v : Working) → w.selection ≡ Range p p format → remove_text_step w ≡ Ok v → IsTaken p p format w × (w ≡ v)
+at_caret p format w v caret e =
+    let told = goes p p format w v caret e in
+    let r : Ranged = ranged p p format in
     let kept : cond (is_collapsed r) (Ok w) (remove_between (start_of w.forest r) (end_of w.forest r) w) ≡ Ok v = told.removed in
-    (told.is, was_same w v (subst (λ t. cond t (Ok w) (remove_between (start_of w.forest r) (end_of w.forest r) w) ≡ Ok v) (collapsed k at format) kept))
+    (
+      told.is,
+      was_same w v (subst (λ t. cond t (Ok w) (remove_between (start_of w.forest r) (end_of w.forest r) w) ≡ Ok v) (collapsed p format) kept),
+    )

@@ -132,7 +132,7 @@ forward k from to format t w v sound normal less selects e =
     let apart : is_collapsed r ≡ false = grind (arith, less, eqb_tells from to) in
     let start : start_of w.forest r ≡ text_point k from = rw (own, order) refl in
     let end : end_of w.forest r ≡ text_point k to = rw (own, order) refl in
-    let told = (goes k from to format w v selects e).removed in
+    let told = (goes (text_point k from) (text_point k to) format w v selects e).removed in
     removed_gone k from to format t w v sound normal less from to selects
     (sym (ap₂ (λ p q. remove_between p q w) start end)
     ∙ sym (ap (λ b. cond b (Ok w) (remove_between (start_of w.forest r) (end_of w.forest r) w)) apart) ∙ told)
@@ -146,7 +146,7 @@ backward k from to format t w v sound normal less selects e =
     let apart : is_collapsed r ≡ false = grind (arith, less, eqb_tells to from) in
     let start : start_of w.forest r ≡ text_point k from = rw (own, order) refl in
     let end : end_of w.forest r ≡ text_point k to = rw (own, order) refl in
-    let told = (goes k to from format w v selects e).removed in
+    let told = (goes (text_point k to) (text_point k from) format w v selects e).removed in
     removed_gone k from to format t w v sound normal less to from selects
     (sym (ap₂ (λ p q. remove_between p q w) start end)
     ∙ sym (ap (λ b. cond b (Ok w) (remove_between (start_of w.forest r) (end_of w.forest r) w)) apart) ∙ told)
@@ -161,13 +161,13 @@ erased_at back reach k at format t w v is more e =
     let p : Point = text_point k at in
     let r : Ranged = ranged p p format in
     let first = after_tells (range_of w) (λ r. cond (is_collapsed r) (deleted_in back reach r.anchor (block_of w.forest r.anchor.key) w) (removed_in r w)) v e in
-    let took = taken k at at format w first.0 is.caret first.1.0 in
+    let took = taken p p format w first.0 is.caret first.1.0 in
     let same : first.0 ≡ r =
     let both_are : ◌≡◌ {A = Result Ranged Cause} (Ok first.0) (Ok r) = sym first.1.0 ∙ took.is in cc in
     let here : cond (is_collapsed r) (deleted_in back reach p (block_of w.forest k) w) (removed_in r w) ≡ Ok v =
     ap (λ r. cond (is_collapsed r) (deleted_in back reach r.anchor (block_of w.forest r.anchor.key) w) (removed_in r w)) (sym same) ∙ first.1.1 in
     let deleted : deleted_in back reach p (block_of w.forest k) w ≡ Ok v =
-    sym (ap (λ b. cond b (deleted_in back reach p (block_of w.forest k) w) (removed_in r w)) (collapsed k at format)) ∙ here in
+    sym (ap (λ b. cond b (deleted_in back reach p (block_of w.forest k) w) (removed_in r w)) (collapsed p format)) ∙ here in
     let inside : deleted_in back reach p (Some is.block) w ≡ Ok v = sym (ap (λ o. deleted_in back reach p o w) is.within) ∙ deleted in
     sym (ap (λ o. erased back reach k at o w) is.normal)
     ∙ sym (ap (λ b. cond b (erased back reach k at (normal_at w.forest k) w) (leaf_or_line back reach is.block (leaf_beside back w.forest is.block p) w)) more)

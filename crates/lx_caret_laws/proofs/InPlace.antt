@@ -163,13 +163,13 @@ pub record OnlyAt (f g : Forest) (base m : ℕ) : Type 0 where
   pub says : (x : ℕ) → has x f ≡ true → (is_within f x m ≡ false) ⊎ (is_within f base x ≡ false) → said g x ≡ said f x
   pub children : (x : ℕ) → has x f ≡ true → (is_within f x m ≡ false) ⊎ (is_within f base x ≡ false) → children_of g x ≡ children_of f x
 
-below_parent : (f : Forest) (x b : ℕ) → IsForest f → parent_of f x ≡ Some b → is_within f b x ≡ true
+pub below_parent : (f : Forest) (x b : ℕ) → IsForest f → parent_of f x ≡ Some b → is_within f b x ≡ true
 below_parent f x b h up =
     let apart : x ≢ b = λ e. absurd (grind (arith, up, e, is_within-parent f x b h up, is_within-self f b, has-parent_of f x b up)) in
     is_within-up f b x b h up apart ∙ is_within-self f b ∙ has-parent_of f x b up
 
 -- what isn't in the tree of a node isn't in that of its child
-out_below : (f : Forest) (x b m : ℕ) → IsForest f → parent_of f x ≡ Some b → is_within f b m ≡ false → is_within f x m ≡ false
+pub out_below : (f : Forest) (x b m : ℕ) → IsForest f → parent_of f x ≡ Some b → is_within f b m ≡ false → is_within f x m ≡ false
 out_below f x b m h up out = elim (cases_Bool (is_within f x m)) [
   | inl reached ↦ absurd (let bad : false ≡ true = sym out ∙ is_within-trans f b x m h (below_parent f x b h up) reached in cc)
   | inr far ↦ far

@@ -3,7 +3,11 @@ pub mod EditedIn
 pub mod Formatted
 pub mod Gone
 pub mod InPlace
+pub mod Opened
+pub mod Placed
 pub mod ReadLevels
 pub mod Spliced
 pub mod SplitSaid
+pub mod TypedAll
 pub mod TypedIn
+pub mod TypedNew

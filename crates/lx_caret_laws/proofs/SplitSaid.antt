@@ -62,10 +62,10 @@ cut_written k o rest w v e =
 -- ---- what is read
 
 -- a text says its characters
-text_said : (f : Forest) (k : ℕ) (t : TextFields) → text_in (label_of f k) ≡ Some t → said f k ≡ told.text_at f k
+pub text_said : (f : Forest) (k : ℕ) (t : TextFields) → text_in (label_of f k) ≡ Some t → said f k ≡ told.text_at f k
 text_said f k t here = ap text_of (text_at f k t here).fields_are ∙ sym (ap text_or_none here)
 
-label_said : (f : Forest) (q : ℕ) (t : TextFields) (now : List ℕ) → label_of f q ≡ Some (record { key = q; kind = kinds.Text; fields = text_replaced t now })
+pub label_said : (f : Forest) (q : ℕ) (t : TextFields) (now : List ℕ) → label_of f q ≡ Some (record { key = q; kind = kinds.Text; fields = text_replaced t now })
     → said f q ≡ told.text_at f q
 label_said f q t now e = ap (λ o. text_of (option_map (λ (l : Label). l.fields) o)) e ∙ sym (ap (λ o. text_or_none (text_in o)) e)
 

@@ -8,7 +8,8 @@ use Rattle.lx_caret_laws.proofs.EditedIn.{edited_around}
 use Rattle.lx_forest.proofs.Order.{IsForest-with_fields}
 use Rattle.lx_caret_laws.proofs.Spliced.{only_reads, reads_itself, text_of_normal, was_spliced}
 use Rattle.lx_caret_laws.specs.Carets.{HasCaret, OnlyReads}
-use Rattle.lx_caret_laws.specs.Typing.{IsTyped, TypingIsRead}
+use Rattle.lx_caret_laws.specs.Typing.{IsTyped}
+use Rattle.lx_caret_laws.specs.Reading.{ReadsBetween}
 use Rattle.lx_draft.specs.Faults.{text_in}
 use Rattle.lx_draft.specs.Selecting.{length_told}
 use Rattle.lx_draft.specs.Steps.{splice_points, splice_step}
@@ -86,7 +87,7 @@ none_typed k at t w v is place same =
 
 -- the command
 pub record IsRead (typed : List ℕ) (k at : ℕ) (t : TextFields) (w v : Working) : Type 0 where
-  pub taken : IsTaken k at at t.format w
+  pub taken : IsTaken (text_point k at) (text_point k at) t.format w
   pub into : IsInto typed k at t w v
 
 by_format : (typed' : List ℕ) (k at : ℕ) (t : TextFields) (w v : Working) → IsTyped typed' k at t w v
@@ -103,7 +104,7 @@ pub is_read : (typed : List ℕ) (k at : ℕ) (t : TextFields) (w v : Working) �
 unfolding insert_text_step
 is_read text k at t w v is =
     let first = after_tells (remove_text_step w) (λ u. cond (has_no_text text) (Ok u) (at_anchor (typed text) u)) v is.done in
-    let caret = at_caret k at t.format w first.0 is.caret first.1.0 in
+    let caret = at_caret (text_point k at) t.format w first.0 is.caret first.1.0 in
     let next : cond (has_no_text text) (Ok w) (at_anchor (typed text) w) ≡ Ok v =
     ap (λ u. cond (has_no_text text) (Ok u) (at_anchor (typed text) u)) caret.1 ∙ first.1.1 in
     let place = place_lies w.forest k at t (text_of_normal w.forest k t is.normal) caret.0.anchor in
@@ -112,15 +113,10 @@ is_read text k at t w v is =
       by_text place [] is next = none_typed k at t w v is place (was_same w v next)
       by_text place (c ∷ cs) is next = into (c ∷ cs) k at t w v is (by_format (c ∷ cs) k at t w v is next)
 
-pub told-typing : TypingIsRead
-told-typing = record {
-  parted = λ typed k at t w v is.
-      let place = place_lies w.forest k at t (text_of_normal w.forest k t is.normal) (is_read typed k at t w v is).taken.anchor in
-      (parts at t.text, offset_is at t.text place.0);
-  read = λ typed k at t w v is. (is_read typed k at t w v is).into.read;
-  around = λ typed k at t w v is.
-      let into = (is_read typed k at t w v is).into in
-      edited_around w.forest v.forest k at at typed t is.sound.ready.in_order into.ordered is.sound.held (text_of_normal w.forest k t is.normal) into.piece
-      into.read;
-  caret = λ typed k at t w v is. (is_read typed k at t w v is).into.caret;
-}
+-- what is read around a text that one types in
+pub into_around : (typed : List ℕ) (k at : ℕ) (t : TextFields) (w v : Working) → IsTyped typed k at t w v
+    → ReadsBetween (text_point k at) (text_point k at) typed w.forest v.forest
+into_around typed k at t w v is =
+    let into = (is_read typed k at t w v is).into in
+    edited_around w.forest v.forest k at at typed t is.sound.ready.in_order into.ordered is.sound.held (text_of_normal w.forest k t is.normal) into.piece
+    into.read

@@ -31,7 +31,7 @@ reads_in f (k ∷ ks) = read_in f k ++ reads_in f ks
 -- how much is read of a point's own node before it: up to the offset in a text, and in as many children of an element
 abbrev pub place_on : Forest → Point → PointKind → ℕ
 place_on f p point.Text = p.offset
-place_on f p point.Element = text_length (reads_in f (take p.offset (children_of f p.key)))
+place_on f p point.Element = text_length (said f p.key ++ reads_in f (take p.offset (children_of f p.key)))
 
 -- how much is read before a point that is on one of these nodes
 abbrev pub place_along : Forest → Point → List ℕ → ℕ

@@ -1,9 +1,12 @@
 -- What it means to type at a caret.
-use Rattle.std.specs.Prelude.{ℕ, ◌≡◌, ◌+◌, ◌++◌, List, Some, Ok}
+use Rattle.std.specs.Prelude.{ℕ, ◌≡◌, ◌≢◌, ◌+◌, ◌++◌, true, is_some, List, [], Some, Ok}
 use Rattle.lx_node.specs.declared.fields.TextFields.{TextFields}
 use Rattle.lx_text.specs.Texts.{text_length, front_of, rest_of}
 use Rattle.lx_draft.specs.Working.{Working}
 use Rattle.lx_blocks.specs.Ranges.{normal_at}
+use Rattle.lx_node.specs.declared.cause.Point.{Point}
+use Rattle.lx_select.specs.declared.selection.Selection.TheVariants.{Range}
+use Rattle.lx_caret.specs.Adding.{is_inside}
 use Rattle.lx_caret.specs.Inserting.{insert_text_step}
 use Rattle.lx_edit.specs.Edits.{text_point}
 use Rattle.lx_caret_laws.specs.Reading.{ReadsBetween}
@@ -14,6 +17,15 @@ pub record IsTyped (typed : List ℕ) (k at : ℕ) (text : TextFields) (w v : Wo
   pub sound : IsSound w
   pub normal : normal_at w.forest k ≡ Some text
   pub caret : HasCaret k at text.format w
+  pub done : insert_text_step typed w ≡ Ok v
+
+-- some text was typed in the draft w, at a caret on any node, which left the draft v; the caret isn't strictly inside a tab, or a
+-- text that isn't normal, which typing never cuts
+pub record IsTypedAt (typed : List ℕ) (p : Point) (format : ℕ) (w v : Working) : Type 0 where
+  pub sound : IsSound w
+  pub some : typed ≢ []
+  pub caret : w.selection ≡ Range p p format
+  pub open_there : is_inside w.forest p p.kind ≡ true → is_some (normal_at w.forest p.key) ≡ true
   pub done : insert_text_step typed w ≡ Ok v
 
 -- what is typed is read at the caret, which stands after it then, and nothing else changes
@@ -27,6 +39,8 @@ pub record TypingIsRead : Type 0 where
   -- so in each element around it is read between what was read before the caret and what was read after it
   pub around : (typed : List ℕ) (k at : ℕ) (text : TextFields) (w v : Working) → IsTyped typed k at text w v →
       ReadsBetween (text_point k at) (text_point k at) typed w.forest v.forest
-  -- the caret stands after it
+  -- and this is so wherever one types: in the text, in a new one beside it or between its parts, or in an element
+  pub anywhere : (typed : List ℕ) (p : Point) (format : ℕ) (w v : Working) → IsTypedAt typed p format w v → ReadsBetween p p typed w.forest v.forest
+  -- the caret in a text stands after what is typed
   pub caret : (typed : List ℕ) (k at : ℕ) (text : TextFields) (w v : Working) → IsTyped typed k at text w v →
       HasCaret k (at + text_length typed) text.format v
