@@ -1,4 +1,4 @@
--- A new text that one types: what is read in each element around it.
+-- A new node that comes at a caret, such as a text that one types: what is read in each element around it.
 use Rattle.lx_blocks.specs.Blocks.{is_at}
 use Rattle.lx_blocks.specs.Ranges.{lies, normal_at}
 use Rattle.lx_caret.proofs.Fit.{after_tells}
@@ -69,9 +69,9 @@ among_placed k q ks (x ∷ xs) there among = elim (eqb_tells x k) [
 
 -- ---- beside a text or tab
 
-module _ (typed : List ℕ) (k at : ℕ) (x : TextFields) (w s v : Working) (rest ks : List ℕ) (sound : IsSound w) (place : lies w.forest (text_point k at) ≡ true)
-    (text : x.text ≡ typed) (o : IsOpened k at rest w s)
-    (b : IsBeside s.forest v.forest k s.next_key ks (label_new s kinds.Text (fields.Text x))) where
+module _ (typed : List ℕ) (k at : ℕ) (kind : Kind) (x : Fields) (w s v : Working) (rest ks : List ℕ) (sound : IsSound w) (place : lies w.forest (text_point k at) ≡ true)
+    (text : text_of (Some x) ≡ typed) (o : IsOpened k at rest w s)
+    (b : IsBeside s.forest v.forest k s.next_key ks (label_new s kind x)) where
   h : IsForest w.forest
   h = sound.ready.in_order
 
@@ -93,7 +93,7 @@ module _ (typed : List ℕ) (k at : ℕ) (x : TextFields) (w s v : Working) (res
         let inner = (both (is_attached w.forest k) (lies_in w.forest (text_point k at)) place).1 in
         let counted = (both (is_counted_in point.Text (kind_of w.forest k)) (is_place w.forest (text_point k at) point.Text) inner).0 in
         let bad : false ≡ true = sym (ap (is_counted_in point.Text) is) ∙ counted in absurd (cc)
-    known (Some kind) is = sym (is_some-kind_of w.forest k) ∙ ap is_some is
+    known (Some found) is = sym (is_some-kind_of w.forest k) ∙ ap is_some is
 
   up : parent_of w.forest k ≡ Some pr
   up = sym (o.stay.parents k there) ∙ b.up
@@ -235,9 +235,9 @@ parts_read f (suc i) [] = refl
 parts_read f (suc i) (c ∷ cs) =
     ap (λ t. read_in f c ++ t) (parts_read f i cs) ∙ sym (append_assoc (read_in f c) (reads_in f (take i cs)) (reads_in f (drop i cs)))
 
-module _ (typed : List ℕ) (k i : ℕ) (x : TextFields) (w v : Working) (sound : IsSound w) (text : x.text ≡ typed) (there : has k w.forest ≡ true)
+module _ (typed : List ℕ) (k i : ℕ) (kind : Kind) (x : Fields) (w v : Working) (sound : IsSound w) (text : text_of (Some x) ≡ typed) (there : has k w.forest ≡ true)
     (within : i ≤ size_of w.forest k)
-    (b : IsPlaced w.forest v.forest k w.next_key (slice_get (children_of w.forest k) i) (label_new w kinds.Text (fields.Text x))) where
+    (b : IsPlaced w.forest v.forest k w.next_key (slice_get (children_of w.forest k) i) (label_new w kind x)) where
   h' : IsForest w.forest
   h' = sound.ready.in_order
 
@@ -291,52 +291,52 @@ module _ (typed : List ℕ) (k i : ℕ) (x : TextFields) (w v : Working) (sound 
 
 -- ---- a node added at a point
 
-module _ (typed : List ℕ) (k at : ℕ) (x : TextFields) (w v : Working) (sound : IsSound w) (text : x.text ≡ typed) where
-  by_place : (s m : Working) (rest : List ℕ) → lies w.forest (text_point k at) ≡ true → IsOpened k at rest w s → new_step kinds.Text (fields.Text x) s ≡ Ok m
+module _ (typed : List ℕ) (k at : ℕ) (kind : Kind) (x : Fields) (w v : Working) (sound : IsSound w) (text : text_of (Some x) ≡ typed) where
+  by_place : (s m : Working) (rest : List ℕ) → lies w.forest (text_point k at) ≡ true → IsOpened k at rest w s → new_step kind x s ≡ Ok m
       → put_by s.next_key (text_point k at) point.Text m ≡ Ok v → ReadsBetween (text_point k at) (text_point k at) typed w.forest v.forest
   by_place s m rest place o new e = elim (eqb_tells at 0) [
     | inl start ↦
         let put : put_before_step s.next_key k m ≡ Ok v = sym (ap (λ t. cond t (put_before_step s.next_key k m) (put_behind_step s.next_key k m)) start.0) ∙ e in
-        ahead_around typed k at x w s v rest (s.next_key ∷ k ∷ []) sound place text o
-        (put_ahead kinds.Text (fields.Text x) k s m v o.stay.ready new put) start.1 refl
+        ahead_around typed k at kind x w s v rest (s.next_key ∷ k ∷ []) sound place text o
+        (put_ahead kind x k s m v o.stay.ready new put) start.1 refl
     | inr later ↦
         let put : put_behind_step s.next_key k m ≡ Ok v = sym (ap (λ t. cond t (put_before_step s.next_key k m) (put_behind_step s.next_key k m)) later.0) ∙ e in
-        behind_around typed k at x w s v rest (k ∷ s.next_key ∷ []) sound place text o
-        (put_after kinds.Text (fields.Text x) k s m v o.stay.ready new put) later.1 refl
+        behind_around typed k at kind x w s v rest (k ∷ s.next_key ∷ []) sound place text o
+        (put_after kind x k s m v o.stay.ready new put) later.1 refl
   ]
 
-  pub added_text : lies w.forest (text_point k at) ≡ true
+  pub added_there : lies w.forest (text_point k at) ≡ true
       → (is_inside w.forest (text_point k at) point.Text ≡ true → is_some (normal_at w.forest k) ≡ true)
-      → add_step (text_point k at) kinds.Text (fields.Text x) w ≡ Ok v → ReadsBetween (text_point k at) (text_point k at) typed w.forest v.forest
+      → add_step (text_point k at) kind x w ≡ Ok v → ReadsBetween (text_point k at) (text_point k at) typed w.forest v.forest
   unfolding add_step
-  added_text place may e = by_fault (no_room kinds.Text (kind_around w.forest k point.Text)) e where
+  added_there place may e = by_fault (no_room kind (kind_around w.forest k point.Text)) e where
     by_fault : (c : Option Cause) → after (answer c w) (λ u. after (opened (text_point k at) u)
-        (λ split. after (new_step kinds.Text (fields.Text x) split) (put_by split.next_key (text_point k at) point.Text))) ≡ Ok v
+        (λ split. after (new_step kind x split) (put_by split.next_key (text_point k at) point.Text))) ≡ Ok v
         → ReadsBetween (text_point k at) (text_point k at) typed w.forest v.forest
     by_fault (Some cause) e = absurd (cc)
     by_fault None e =
         let one = after_tells (opened (text_point k at) w)
-        (λ split. after (new_step kinds.Text (fields.Text x) split) (put_by split.next_key (text_point k at) point.Text)) v e in
-        let two = after_tells (new_step kinds.Text (fields.Text x) one.0) (put_by one.0.next_key (text_point k at) point.Text) v one.1.1 in
+        (λ split. after (new_step kind x split) (put_by split.next_key (text_point k at) point.Text)) v e in
+        let two = after_tells (new_step kind x one.0) (put_by one.0.next_key (text_point k at) point.Text) v one.1.1 in
         let o = opened_tells k at w one.0 sound place may one.1.0 in
         by_place one.0 two.0 o.0 place o.1 two.1.0 two.1.1
 
   pub added_element : lies w.forest (element_point k at) ≡ true
-      → add_step (element_point k at) kinds.Text (fields.Text x) w ≡ Ok v → ReadsBetween (element_point k at) (element_point k at) typed w.forest v.forest
+      → add_step (element_point k at) kind x w ≡ Ok v → ReadsBetween (element_point k at) (element_point k at) typed w.forest v.forest
   unfolding add_step
-  added_element place e = by_fault (no_room kinds.Text (kind_around w.forest k point.Element)) e where
+  added_element place e = by_fault (no_room kind (kind_around w.forest k point.Element)) e where
     counted : (c : Option Kind) → kind_of w.forest k ≡ c → is_counted_in point.Element c ≡ true → has k w.forest ≡ true
     counted None is e = absurd (cc)
-    counted (Some kind) is e = sym (is_some-kind_of w.forest k) ∙ ap is_some is
+    counted (Some found) is e = sym (is_some-kind_of w.forest k) ∙ ap is_some is
 
     by_fault : (c : Option Cause) → after (answer c w) (λ u. after (opened (element_point k at) u)
-        (λ split. after (new_step kinds.Text (fields.Text x) split) (put_by split.next_key (element_point k at) point.Element))) ≡ Ok v
+        (λ split. after (new_step kind x split) (put_by split.next_key (element_point k at) point.Element))) ≡ Ok v
         → ReadsBetween (element_point k at) (element_point k at) typed w.forest v.forest
     by_fault (Some cause) e = absurd (cc)
     by_fault None e =
-        let two = after_tells (new_step kinds.Text (fields.Text x) w) (put_by w.next_key (element_point k at) point.Element) v e in
+        let two = after_tells (new_step kind x w) (put_by w.next_key (element_point k at) point.Element) v e in
         let inner = (both (is_attached w.forest k) (lies_in w.forest (element_point k at)) place).1 in
         let parts = both (is_counted_in point.Element (kind_of w.forest k)) (is_place w.forest (element_point k at) point.Element) inner in
         let within : at ≤ size_of w.forest k = grind (arith, nat_tests, parts.1) in
-        element_around typed k at x w v sound text (counted (kind_of w.forest k) refl parts.0) within
-        (put_placed kinds.Text (fields.Text x) k at w two.0 v sound.ready two.1.0 two.1.1)
+        element_around typed k at kind x w v sound text (counted (kind_of w.forest k) refl parts.0) within
+        (put_placed kind x k at w two.0 v sound.ready two.1.0 two.1.1)
