@@ -1,4 +1,6 @@
 pub mod AtCaret
+pub mod BrokenParts
+pub mod BrokenUp
 pub mod EditedIn
 pub mod Formatted
 pub mod Gone

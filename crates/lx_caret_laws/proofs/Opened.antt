@@ -1,6 +1,11 @@
 -- A text that holds the caret strictly inside is split there: its pieces, and all else.
 use Rattle.lx_blocks.specs.Ranges.{characters_at, lies, normal_at}
 use Rattle.lx_caret.proofs.Lies.{both, text_at}
+use Rattle.lx_blocks.specs.Blocks.{is_at}
+use Rattle.lx_node.specs.Kinds.{is_element}
+use Rattle.lx_caret.proofs.Parents.{characters_no_element}
+use Rattle.lx_caret.specs.Paragraphs.{cut_open}
+use Rattle.lx_edit.specs.Conditions.{bad_offset}
 use Rattle.lx_caret.specs.Adding.{is_inside, opened}
 use Rattle.lx_caret_laws.proofs.Spliced.{text_few, text_of_normal}
 use Rattle.lx_caret_laws.proofs.SplitSaid.{label_said, text_said}
@@ -11,7 +16,7 @@ use Rattle.lx_draft.specs.Selecting.{is_counted_in, is_place, length_of, length_
 use Rattle.lx_draft.specs.Working.{Working}
 use Rattle.lx_edit.specs.Edits.{text_point}
 use Rattle.lx_edit.specs.Texts.{keys_from, split_step, text_or_none}
-use Rattle.lx_edit_laws.proofs.SplitLaws.{IsLeft, left}
+use Rattle.lx_edit_laws.proofs.SplitLaws.{IsLeft, cut_up, left, no_offset}
 use Rattle.lx_edit_laws.proofs.SplitPieces.{AllStay, stay_self}
 use Rattle.lx_edit_laws.proofs.WrapSteps.{was_same}
 use Rattle.lx_edit_laws.specs.Reading as told
@@ -122,3 +127,28 @@ opened_tells k at w s sound place may e = by_inside (is_inside w.forest (text_po
         let spot : is_offset at t.text ≡ true =
         subst (λ x. is_offset at (text_of x) ≡ true) (text_at w.forest k t here).fields_are (place_said w.forest k at place).0 in
         (w.next_key ∷ [], split_open k at t w s sound here spot e)
+
+-- a caret in a text or tab that is split whatever its mode: what is split is a text
+pub cut_tells : (k at : ℕ) (w s : Working) → IsSound w → lies w.forest (text_point k at) ≡ true → cut_open (text_point k at) w ≡ Ok s
+    → (rest : List ℕ) × IsOpened k at rest w s
+cut_tells k at w s sound place e = by_inside (is_inside w.forest (text_point k at) point.Text) refl e where
+  by_inside : (b : Bool) → is_inside w.forest (text_point k at) point.Text ≡ b → cond b (split_step k (at ∷ []) w) (Ok w) ≡ Ok s
+      → (rest : List ℕ) × IsOpened k at rest w s
+  by_inside false is e = ([], subst (IsOpened k at [] w) (was_same w s e) (unopened k at w sound place is))
+  by_inside true is e = by_text (text_in (label_of w.forest k)) refl where
+    by_text : (o : Option TextFields) → text_in (label_of w.forest k) ≡ o → (rest : List ℕ) × IsOpened k at rest w s
+    by_text None none =
+        let c = cut_up k (at ∷ []) w s e in
+        absurd (no_offset at [] (ap (λ t. bad_offset 0 t (at ∷ [])) (sym (ap text_or_none none)) ∙ c.allowed))
+    by_text (Some t) here =
+        let spot : is_offset at t.text ≡ true =
+        subst (λ x. is_offset at (text_of x) ≡ true) (text_at w.forest k t here).fields_are (place_said w.forest k at place).0 in
+        (w.next_key ∷ [], split_open k at t w s sound here spot e)
+
+-- ---- what counts characters
+
+-- such a node has no children
+pub no_element_at : (f : Forest) (k at : ℕ) → lies f (text_point k at) ≡ true → is_at is_element f k ≡ false
+no_element_at f k at place =
+    let inner = (both (is_attached f k) (lies_in f (text_point k at)) place).1 in
+    characters_no_element (kind_of f k) (both (is_counted_in point.Text (kind_of f k)) (is_place f (text_point k at) point.Text) inner).0

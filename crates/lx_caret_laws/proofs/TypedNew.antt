@@ -46,10 +46,10 @@ use Rattle.std.specs.Prelude.{drop, insert, is_some, nat_le, slice_get, take}
 
 -- ---- labels
 
-said_label : (f g : Forest) (q : ℕ) → label_of g q ≡ label_of f q → said g q ≡ said f q
+pub said_label : (f g : Forest) (q : ℕ) → label_of g q ≡ label_of f q → said g q ≡ said f q
 said_label f g q e = ap (λ o. text_of (option_map (λ (l : Label). l.fields) o)) e
 
-has_label : (f g : Forest) (q : ℕ) → has q f ≡ true → label_of g q ≡ label_of f q → has q g ≡ true
+pub has_label : (f g : Forest) (q : ℕ) → has q f ≡ true → label_of g q ≡ label_of f q → has q g ≡ true
 has_label f g q so e =
     sym (is_some-kind_of g q) ∙ ap (λ o. is_some (option_map (λ (l : Label). l.kind) o)) e ∙ is_some-kind_of f q ∙ so
 
@@ -229,7 +229,7 @@ insert_read f g n (suc i) (c ∷ cs) same within =
     ap₂ (λ a t. a ++ t) (same c (grind (arith, eqb_tells c c))) (insert_read f g n i cs (λ q among. same q (grind (arith, among))) (omega (arith, within)))
     ∙ sym (append_assoc (read_in f c) (reads_in f (take i cs)) (read_in g n ++ reads_in f (drop i cs)))
 
-parts_read : (f : Forest) (i : ℕ) (cs : List ℕ) → reads_in f cs ≡ reads_in f (take i cs) ++ reads_in f (drop i cs)
+pub parts_read : (f : Forest) (i : ℕ) (cs : List ℕ) → reads_in f cs ≡ reads_in f (take i cs) ++ reads_in f (drop i cs)
 parts_read f zero cs = refl
 parts_read f (suc i) [] = refl
 parts_read f (suc i) (c ∷ cs) =

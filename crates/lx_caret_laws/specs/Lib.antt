@@ -1,3 +1,4 @@
+pub mod Breaking
 pub mod Carets
 pub mod Deleting
 pub mod Formatting

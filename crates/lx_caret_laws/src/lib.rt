@@ -3,10 +3,12 @@
 //! are laws about those steps. There is no code here.
 #![tactic(auto)]
 
+mod breaking;
 mod deleting;
 mod formatting;
 mod typing;
 
+pub use breaking::breaking_parts_text;
 pub use deleting::deleting_is_exact;
 pub use formatting::formatting_keeps_text;
 pub use typing::typing_is_read;
