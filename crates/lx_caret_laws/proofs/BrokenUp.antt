@@ -32,7 +32,7 @@ use Rattle.lx_edit_laws.specs.Reading.{in_place_of}
 use Rattle.lx_forest.proofs.Edits.{is_some-spot}
 use Rattle.lx_forest.proofs.Lookups.{NoRepeats-children_of, has-child, has-parent_of, is_among-children_of, parent_of-self}
 use Rattle.lx_forest.proofs.Walks.{ancestors-step}
-use Rattle.lx_forest.proofs.Within.{is_within-parent, is_within-self}
+use Rattle.lx_forest.proofs.Within.{is_within-parent, is_within-self, is_within-trans}
 use Rattle.lx_forest.specs.Forest.{Forest, Label}
 use Rattle.lx_forest.specs.Lookups.{IsForest, ancestors, children_below, children_of, has, index_of, is_within, keys_within, kind_of, label_of, parent_of, size_of}
 use Rattle.lx_node.specs.Kinds.{is_element, is_item, is_text_block}
@@ -260,13 +260,36 @@ module _ (block k at : ℕ) (rest : List ℕ) (w s : Working) (sound : IsSound w
         subst (λ m. children_of v.forest m ≡ in_place_of block (block ∷ n ∷ []) (children_of f m)) same
         (over.others pr (λ e. not_parent (sym e)) (not_new pr pr_there) ∙ b.order ∙ ap (in_place_of block (block ∷ n ∷ [])) still)
 
-    pub are_parted : IsPartedAt (place_in f block p) block n w v
+    -- what doesn't hold the caret stays
+    not_above : (q : ℕ) → is_within f q k ≡ false → (q ≢ k) × ((q ≢ block) × (q ≢ pr))
+    not_above q out =
+        let above : is_within f block k ≡ true = below_parent f k block h up in
+        let up_f : parent_of f block ≡ Some pr = sym (o.stay.parents block block_there) ∙ b.up in
+        let over : is_within f pr k ≡ true = is_within-trans f pr block k h (below_parent f block pr h up_f) above in (
+          λ e. absurd (grind (arith, e, out, own)),
+          (λ e. absurd (grind (arith, e, out, above)), λ e. absurd (grind (arith, e, out, over))),
+        )
+
+    there_still : (q : ℕ) → has q f ≡ true → is_within f q k ≡ false → has q s.forest ≡ true
+    there_still q so out = has_label f s.forest q so (o.stay.labels q so (not_above q out).0)
+
+    label_aside : (q : ℕ) → has q f ≡ true → is_within f q k ≡ false → label_of v.forest q ≡ label_of f q
+    label_aside q so out = label_same q (there_still q so out) ∙ o.stay.labels q so (not_above q out).0
+
+    children_aside : (q : ℕ) → has q f ≡ true → is_within f q k ≡ false → children_of v.forest q ≡ children_of f q
+    children_aside q so out =
+        let off = not_above q out in
+        over.others q off.1.0 (not_new q (there_still q so out)) ∙ b.children q off.1.1
+        ∙ o.stay.children q so (λ e. off.1.0 (sym (let g : Some block ≡ Some q = sym up ∙ e in cc)))
+
+    pub are_parted : IsPartedAt (place_in f block p) block n k w v
     are_parted = record {
       inside = offset_at (place_in f block p) front back (read_in f block) old_is length_is;
       before = front_read ∙ sym (front_at (place_in f block p) front back (read_in f block) old_is length_is);
       behind = back_read ∙ sym (rest_at (place_in f block p) front back (read_in f block) old_is length_is);
       fresh = fresh;
       order = new_order;
+      aside = record { each = λ q so out again. (label_aside q so out, children_aside q so out) };
     }
 
 -- ---- the steps
@@ -288,14 +311,14 @@ made_next s m block moved so e = by_label (label_of s.forest block) refl e where
   }
 
 -- where the caret is doesn't matter
-same_forest : (place block new : ℕ) (w v : Working) (there : Point) → IsPartedAt place block new w v → IsPartedAt place block new w (caret_at there v)
-same_forest place block new w v there i =
-    record { inside = i.inside; before = i.before; behind = i.behind; fresh = i.fresh; order = i.order }
+same_forest : (place block new k : ℕ) (w v : Working) (caret : Point) → IsPartedAt place block new k w v → IsPartedAt place block new k w (caret_at caret v)
+same_forest place block new k w v caret i =
+    record { inside = i.inside; before = i.before; behind = i.behind; fresh = i.fresh; order = i.order; aside = i.aside }
 
 moved_parted : (block k at : ℕ) (rest : List ℕ) (w s v : Working) (i : ℕ) → IsSound w → lies w.forest (text_point k at) ≡ true → parent_of w.forest k ≡ Some block
     → IsOpened k at rest w s → index_in (children_of s.forest block) k ≡ Some i
     → moved_on block (drop (place_of (Some i) at) (children_of s.forest block)) s ≡ Ok v
-    → IsPartedAt (place_in w.forest block (text_point k at)) block s.next_key w v
+    → IsPartedAt (place_in w.forest block (text_point k at)) block s.next_key k w v
 unfolding moved_on
 moved_parted block k at rest w s v i sound place up o is e =
     let n : ℕ = s.next_key in
@@ -316,8 +339,8 @@ moved_parted block k at rest w s v i sound place up o is e =
     λ c among. parent_here two.0.forest block c b.ordered (ap (is_among c) (b.children block apart) ∙ among_drop (place_of (Some i) at) cs c among) in
     let over = went_over block n moved two.0 three.0 b.ordered two_apart
     (once_drop (place_of (Some i) at) cs (NoRepeats-children_of s.forest block sh)) ups three.1.0 in
-    subst (IsPartedAt (place_in w.forest block (text_point k at)) block n w) (was_same (caret_at (start_of_first three.0.forest n moved) three.0) v three.1.1)
-    (same_forest (place_in w.forest block (text_point k at)) block n w three.0 (start_of_first three.0.forest n moved)
+    subst (IsPartedAt (place_in w.forest block (text_point k at)) block n k w) (was_same (caret_at (start_of_first three.0.forest n moved) three.0) v three.1.1)
+    (same_forest (place_in w.forest block (text_point k at)) block n k w three.0 (start_of_first three.0.forest n moved)
     (are_parted block k at rest w s sound place up o n i made.kind made.fields two.0 three.0 is refl b over))
 
 -- ---- the command
@@ -351,7 +374,7 @@ not_parted f k block h up =
     ap (until (Some block)) (ancestors-step f k block h up) ∙ ap (λ t. cond t [] (block ∷ until (Some block) (ancestors f block))) own
 
 cut_parted : (block k at : ℕ) (w v : Working) → IsSound w → lies w.forest (text_point k at) ≡ true → parent_of w.forest k ≡ Some block
-    → block_cut block (text_point k at) w ≡ Ok v → (new : ℕ) × IsPartedAt (place_in w.forest block (text_point k at)) block new w v
+    → block_cut block (text_point k at) w ≡ Ok v → (new : ℕ) × IsPartedAt (place_in w.forest block (text_point k at)) block new k w v
 unfolding block_cut parted_up
 cut_parted block k at w v sound place up e =
     let p : Point = text_point k at in
@@ -371,12 +394,12 @@ cut_parted block k at w v sound place up e =
     (ap (λ q. moved_on block (drop (place_of q at) (children_of s.forest block)) s) (sym index_is) ∙ whole) where
       by_index : (s : Working) (rest : List ℕ) → IsOpened k at rest w s → (q : Option ℕ) → index_in (children_of s.forest block) k ≡ q → is_some q ≡ true
           → moved_on block (drop (place_of q at) (children_of s.forest block)) s ≡ Ok v
-          → (new : ℕ) × IsPartedAt (place_in w.forest block (text_point k at)) block new w v
+          → (new : ℕ) × IsPartedAt (place_in w.forest block (text_point k at)) block new k w v
       by_index s rest o None is some e = absurd (cc)
       by_index s rest o (Some i) is some e = (s.next_key, moved_parted block k at rest w s v i sound place up o is e)
 
 break_parted : (block k at format : ℕ) (w v : Working) → IsBroken block k at format w v
-    → (new : ℕ) × IsPartedAt (place_in w.forest block (text_point k at)) block new w v
+    → (new : ℕ) × IsPartedAt (place_in w.forest block (text_point k at)) block new k w v
 unfolding insert_paragraph_step
 break_parted block k at format w v is =
     let p : Point = text_point k at in
@@ -404,7 +427,7 @@ break_parted block k at format w v is =
     let drafts : two.0 ≡ v =
     let last : ◌≡◌ {A = Result Broken Cause} (Ok (record { draft = two.0; item = empty_item w })) (Ok left.0) = two.1.1 in
     let same : two.0 ≡ left.0.draft = cc in same ∙ left.1.1 in
-    subst (λ u. (new : ℕ) × IsPartedAt (place_in w.forest block p) block new w u) drafts (cut_parted block k at w two.0 is.sound place is.up cut) where
+    subst (λ u. (new : ℕ) × IsPartedAt (place_in w.forest block p) block new k w u) drafts (cut_parted block k at w two.0 is.sound place is.up cut) where
       not_empty : (xs : List ℕ) (c : ℕ) → is_among c xs ≡ true → eqb (length xs) 0 ≡ false
       not_empty [] c among = absurd (cc)
       not_empty (x ∷ xs) c among = grind arith

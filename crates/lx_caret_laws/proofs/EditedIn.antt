@@ -121,4 +121,9 @@ edited_around f g k from to new t h j held here piece only =
       places = λ b element first second. let a = all b first in (a.first, a.second, a.order);
       around = λ b element first second. (all b first).is;
       elsewhere = λ b element first second. read_elsewhere f g k k o b (there_by f b element) first;
+      aside = record {
+        each = λ x so first second.
+            let other : x ≢ k = λ same. absurd (grind (arith, first, same, is_within-self f k, there)) in
+            (ap (option_map (λ (y : Spot Label). y.label)) (only.others x other), ap children_at (only.others x other));
+      };
     }

@@ -211,6 +211,12 @@ module _ (typed : List ℕ) (k at : ℕ) (kind : Kind) (x : Fields) (w s v : Wor
         places = λ b element first second. let a = all b element first in (a.first, a.second, a.order);
         around = λ b element first second. (all b element first).is;
         elsewhere = λ b element first second. read_elsewhere f g pr k only_at b (there_by f b element) first;
+        aside = record {
+          each = λ q so first second. (
+              label_still q so (λ same. absurd (grind (arith, first, same, is_within-self f k, there))),
+              children_there q so (λ same. absurd (grind (arith, first, same, above))),
+            );
+        };
       }
 
   pub ahead_around : at ≡ 0 → ks ≡ s.next_key ∷ k ∷ [] → ReadsBetween (text_point k at) (text_point k at) typed w.forest v.forest
@@ -287,6 +293,10 @@ module _ (typed : List ℕ) (k i : ℕ) (kind : Kind) (x : Fields) (w v : Workin
         places = λ b element first second. let a = all b first in (a.first, a.second, a.order);
         around = λ b element first second. (all b first).is;
         elsewhere = λ b element first second. read_elsewhere f g k k only_here b (there_by f b element) first;
+        aside = record {
+          each = λ q so first second.
+              (b.labels q so, b.children q (λ same. absurd (grind (arith, first, same, is_within-self f k, there))));
+        };
       }
 
 -- ---- a node added at a point

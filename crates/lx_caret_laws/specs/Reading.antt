@@ -6,7 +6,7 @@ use Rattle.lx_node.specs.declared.cause.PointKind.{PointKind}
 use Rattle.lx_node.specs.declared.cause.PointKind.TheVariants as point
 use Rattle.lx_text.specs.Texts.{text_length, is_offset, front_of, rest_of}
 use Rattle.lx_forest.specs.Forest.{Forest}
-use Rattle.lx_forest.specs.Lookups.{fields_of, children_of, keys_within, is_within}
+use Rattle.lx_forest.specs.Lookups.{has, label_of, fields_of, children_of, keys_within, is_within}
 use Rattle.lx_draft.specs.Selecting.{text_of}
 use Rattle.lx_blocks.specs.Blocks.{is_at}
 
@@ -42,6 +42,12 @@ place_along f p (k ∷ ks) = if p.key == k then place_on f p p.kind else text_le
 abbrev pub place_in : Forest → ℕ → Point → ℕ
 place_in f b p = place_along f p (keys_within f b)
 
+-- Each node that neither of two nodes is below, nor is one of them, has its label and its children in g as in f: so has a block
+-- in which neither is, with all that is in it.
+pub record StaysAside (k m : ℕ) (f g : Forest) : Type 0 where
+  pub each : (q : ℕ) → has q f ≡ true → is_within f q k ≡ false → is_within f q m ≡ false →
+      (label_of g q ≡ label_of f q) × (children_of g q ≡ children_of f q)
+
 -- What is read in g, where new characters came to what lay between two points of f: in each element that both are in, such as
 -- their block or the root, what was read before the first, the new ones, and what was read after the second; and in each other
 -- element, what was read there.
@@ -52,6 +58,8 @@ pub record ReadsBetween (p q : Point) (new : List ℕ) (f g : Forest) : Type 0 w
       read_in g b ≡ front_of (place_in f b p) (read_in f b) ++ new ++ rest_of (place_in f b q) (read_in f b)
   pub elsewhere : (b : ℕ) → is_at is_element f b ≡ true → is_within f b p.key ≡ false → is_within f b q.key ≡ false →
       read_in g b ≡ read_in f b
+  -- all that neither point is in stays
+  pub aside : StaysAside p.key q.key f g
 
 -- in every element, such as a block, a cell or the root, the same is read in g as in f
 pub record ReadsTheSame (f g : Forest) : Type 0 where
