@@ -13,7 +13,7 @@ use Rattle.lx_caret_laws.proofs.EditedIn.{edited_around}
 use Rattle.lx_forest.proofs.Order.{IsForest-with_fields}
 use Rattle.lx_caret_laws.proofs.Spliced.{only_reads, text_of_normal, text_few, was_spliced}
 use Rattle.lx_caret_laws.specs.Carets.{HasCaret, IsSound, OnlyReads, SelectsIn}
-use Rattle.lx_caret_laws.specs.Deleting.{DeletingIsExact, IsCaretIn, IsGone}
+use Rattle.lx_caret_laws.specs.Deleting.{DeletingIsExact, IsCaretIn, IsGone, IsSelectedIn}
 use Rattle.lx_draft.specs.Faults.{after, text_in}
 use Rattle.lx_draft.specs.Selecting.{length_of, length_told}
 use Rattle.lx_draft.specs.Steps.{splice_points, splice_step}
@@ -114,42 +114,95 @@ cut_between k from to w v less normal e =
     (λ removed. after (end_cut start end point.Text removed) (merge_step b b))) v e in
     sym cut ∙ first.1.0 ∙ sym (rest first.0) ∙ first.1.1
 
-removed_gone : (k from to format : ℕ) (t : TextFields) (w v : Working) → IsSound w → normal_at w.forest k ≡ Some t → from < to
-    → (a b : ℕ) → SelectsIn k a b format w → remove_between (text_point k from) (text_point k to) w ≡ Ok v → IsGone k from to format t.text w v
-removed_gone k from to format t w v sound normal less a b selects e =
-    let u : Working = caret_at (text_point k from) w in
-    let caret : HasCaret k from format u = ap (each_point (λ p. text_point k from)) selects in
-    let told = gone k from to from format t u v (record { ready = record { in_order = sound.ready.in_order; free = sound.ready.free }; held = sound.held; short = sound.short; written = sound.written }) (text_of_normal w.forest k t normal) caret (inl refl)
-    (cut_between k from to w v less (ap is_some normal) e) in
-    record { parted = told.parted; length = told.length; read = told.read; caret = told.caret; around = told.around }
-
-forward : (k from to format : ℕ) (t : TextFields) (w v : Working) → IsSound w → normal_at w.forest k ≡ Some t → from < to
-    → SelectsIn k from to format w → remove_text_step w ≡ Ok v → IsGone k from to format t.text w v
-forward k from to format t w v sound normal less selects e =
+-- what a range covers in a text, by the order of its points
+forward : (k from to format : ℕ) (w v : Working) → from < to → removed_in (ranged (text_point k from) (text_point k to) format) w ≡ Ok v
+    → remove_between (text_point k from) (text_point k to) w ≡ Ok v
+forward k from to format w v less e =
     let r : Ranged = ranged (text_point k from) (text_point k to) format in
     let own : eqb k k ≡ true = grind (arith, eqb_tells k k) in
     let order : nat_le from to ≡ true = grind (arith, less, nat_tests) in
     let apart : is_collapsed r ≡ false = grind (arith, less, eqb_tells from to) in
     let start : start_of w.forest r ≡ text_point k from = rw (own, order) refl in
     let end : end_of w.forest r ≡ text_point k to = rw (own, order) refl in
-    let told = (goes (text_point k from) (text_point k to) format w v selects e).removed in
-    removed_gone k from to format t w v sound normal less from to selects
-    (sym (ap₂ (λ p q. remove_between p q w) start end)
-    ∙ sym (ap (λ b. cond b (Ok w) (remove_between (start_of w.forest r) (end_of w.forest r) w)) apart) ∙ told)
+    sym (ap₂ (λ p q. remove_between p q w) start end)
+    ∙ sym (ap (λ b. cond b (Ok w) (remove_between (start_of w.forest r) (end_of w.forest r) w)) apart) ∙ e
 
-backward : (k from to format : ℕ) (t : TextFields) (w v : Working) → IsSound w → normal_at w.forest k ≡ Some t → from < to
-    → SelectsIn k to from format w → remove_text_step w ≡ Ok v → IsGone k from to format t.text w v
-backward k from to format t w v sound normal less selects e =
+backward : (k from to format : ℕ) (w v : Working) → from < to → removed_in (ranged (text_point k to) (text_point k from) format) w ≡ Ok v
+    → remove_between (text_point k from) (text_point k to) w ≡ Ok v
+backward k from to format w v less e =
     let r : Ranged = ranged (text_point k to) (text_point k from) format in
     let own : eqb k k ≡ true = grind (arith, eqb_tells k k) in
     let order : nat_le to from ≡ false = grind (arith, less, nat_tests) in
     let apart : is_collapsed r ≡ false = grind (arith, less, eqb_tells to from) in
     let start : start_of w.forest r ≡ text_point k from = rw (own, order) refl in
     let end : end_of w.forest r ≡ text_point k to = rw (own, order) refl in
-    let told = (goes (text_point k to) (text_point k from) format w v selects e).removed in
-    removed_gone k from to format t w v sound normal less to from selects
-    (sym (ap₂ (λ p q. remove_between p q w) start end)
-    ∙ sym (ap (λ b. cond b (Ok w) (remove_between (start_of w.forest r) (end_of w.forest r) w)) apart) ∙ told)
+    sym (ap₂ (λ p q. remove_between p q w) start end)
+    ∙ sym (ap (λ b. cond b (Ok w) (remove_between (start_of w.forest r) (end_of w.forest r) w)) apart) ∙ e
+
+-- a selection in a text, cut out once the caret is at its start
+pub record IsCutOut (k from to format : ℕ) (w v : Working) : Type 0 where
+  pub caret : HasCaret k from format (caret_at (text_point k from) w)
+  pub cut : splice_step k from to [] (caret_at (text_point k from) w) ≡ Ok v
+
+cut_out : (k a b from to format : ℕ) (t : TextFields) (w v : Working) → IsSelectedIn k from to format t w → SelectsIn k a b format w
+    → remove_between (text_point k from) (text_point k to) w ≡ Ok v → IsCutOut k from to format w v
+cut_out k a b from to format t w v is selects e = record {
+  caret = ap (each_point (λ p. text_point k from)) selects;
+  cut = cut_between k from to w v is.some (ap is_some is.normal) e;
+}
+
+pub removed_cut : (k from to format : ℕ) (t : TextFields) (w v : Working) → IsSelectedIn k from to format t w → remove_text_step w ≡ Ok v
+    → IsCutOut k from to format w v
+removed_cut k from to format t w v is e = elim is.selects [
+  | inl selects ↦
+      cut_out k from to from to format t w v is selects
+      (forward k from to format w v is.some (goes (text_point k from) (text_point k to) format w v selects e).removed)
+  | inr selects ↦
+      cut_out k to from from to format t w v is selects
+      (backward k from to format w v is.some (goes (text_point k to) (text_point k from) format w v selects e).removed)
+]
+
+pub caret_sound : (k from : ℕ) (w : Working) → IsSound w → IsSound (caret_at (text_point k from) w)
+caret_sound k from w sound = record {
+  ready = record { in_order = sound.ready.in_order; free = sound.ready.free };
+  held = sound.held;
+  short = sound.short;
+  written = sound.written;
+}
+
+pub cut_gone : (k from to format : ℕ) (t : TextFields) (w v : Working) → IsSelectedIn k from to format t w → IsCutOut k from to format w v
+    → IsGone k from to format t.text w v
+cut_gone k from to format t w v is c =
+    let told = gone k from to from format t (caret_at (text_point k from) w) v (caret_sound k from w is.sound) (text_of_normal w.forest k t is.normal) c.caret
+    (inl refl) c.cut in
+    record { parted = told.parted; length = told.length; read = told.read; caret = told.caret; around = told.around }
+
+-- a selection that is deleted is removed
+deleted_goes : (back : Bool) (reach : Reach) (a b : Point) (format : ℕ) (w v : Working) → w.selection ≡ Range a b format
+    → is_collapsed (ranged a b format) ≡ false → delete_step back reach w ≡ Ok v → removed_in (ranged a b format) w ≡ Ok v
+unfolding delete_step
+deleted_goes back reach a b format w v selects apart e =
+    let r : Ranged = ranged a b format in
+    let first = after_tells (range_of w) (λ r. cond (is_collapsed r) (deleted_in back reach r.anchor (block_of w.forest r.anchor.key) w) (removed_in r w)) v e in
+    let took = taken a b format w first.0 selects first.1.0 in
+    let same : first.0 ≡ r =
+    let both_are : ◌≡◌ {A = Result Ranged Cause} (Ok first.0) (Ok r) = sym first.1.0 ∙ took.is in cc in
+    let here : cond (is_collapsed r) (deleted_in back reach a (block_of w.forest a.key) w) (removed_in r w) ≡ Ok v =
+    ap (λ r. cond (is_collapsed r) (deleted_in back reach r.anchor (block_of w.forest r.anchor.key) w) (removed_in r w)) (sym same) ∙ first.1.1 in
+    sym (ap (λ t. cond t (deleted_in back reach a (block_of w.forest a.key) w) (removed_in r w)) apart) ∙ here
+
+deleted_gone : (back : Bool) (reach : Reach) (k from to format : ℕ) (t : TextFields) (w v : Working) → IsSelectedIn k from to format t w
+    → delete_step back reach w ≡ Ok v → IsGone k from to format t.text w v
+deleted_gone back reach k from to format t w v is e = elim is.selects [
+  | inl selects ↦
+      let apart : is_collapsed (ranged (text_point k from) (text_point k to) format) ≡ false = grind (arith, is.some, eqb_tells from to) in
+      cut_gone k from to format t w v is (cut_out k from to from to format t w v is selects
+      (forward k from to format w v is.some (deleted_goes back reach (text_point k from) (text_point k to) format w v selects apart e)))
+  | inr selects ↦
+      let apart : is_collapsed (ranged (text_point k to) (text_point k from) format) ≡ false = grind (arith, is.some, eqb_tells to from) in
+      cut_gone k from to format t w v is (cut_out k to from from to format t w v is selects
+      (backward k from to format w v is.some (deleted_goes back reach (text_point k to) (text_point k from) format w v selects apart e)))
+]
 
 -- ---- next to a caret
 
@@ -193,8 +246,11 @@ gone_after reach k at format t w v is some e =
 pub told-deleting : DeletingIsExact
 unfolding delete_character_step delete_word_step
 told-deleting = record {
-  removed = λ k from to format t w v sound normal less selects e. forward k from to format t w v sound normal less selects e;
-  removed_back = λ k from to format t w v sound normal less selects e. backward k from to format t w v sound normal less selects e;
+  removed = λ k from to format t w v is e. cut_gone k from to format t w v is (removed_cut k from to format t w v is e);
+  selection_deleted = λ back k from to format t w v is e. elim e [
+      | inl character ↦ deleted_gone back (cluster_reach back) k from to format t w v is character
+      | inr word ↦ deleted_gone back (word_reach back) k from to format t w v is word
+    ];
   character_before = λ k at format t w v is some e. gone_before (cluster_reach true) k at format t w v is some e;
   character_after = λ k at format t w v is some e. gone_after (cluster_reach false) k at format t w v is some e;
   word_before = λ k at format t w v is some e. gone_before (word_reach true) k at format t w v is some e;

@@ -13,3 +13,4 @@ pub mod SplitSaid
 pub mod TypedAll
 pub mod TypedIn
 pub mod TypedNew
+pub mod TypedOver

@@ -10,6 +10,7 @@ use Rattle.lx_caret_laws.proofs.AtCaret.{at_caret, place_lies}
 use Rattle.lx_caret_laws.proofs.Spliced.{text_of_normal}
 use Rattle.lx_caret_laws.proofs.TypedIn.{into_around, is_read}
 use Rattle.lx_caret_laws.proofs.TypedNew.{added_element, added_there}
+use Rattle.lx_caret_laws.proofs.TypedOver.{typed_over}
 use Rattle.lx_caret_laws.specs.Carets.{IsSound}
 use Rattle.lx_caret_laws.specs.Reading.{ReadsBetween}
 use Rattle.lx_caret_laws.specs.Typing.{IsCaretAt, IsTyped, TypingIsRead}
@@ -155,6 +156,7 @@ told-typing = record {
       (parts at t.text, offset_is at t.text place.0);
   read = λ typed k at t w v is. (is_read typed k at t w v is).into.read;
   around = λ typed k at t w v is. into_around typed k at t w v is;
+  over = λ typed k from to t w v is e. typed_over typed k from to t w v is e;
   anywhere = λ typed p format w v is some e. at_point typed p.key p.offset p.kind format w v is some e;
   tab = λ p format w v is e. tab_around p format w v is e;
   line_break = λ p format w v is e. break_around p format w v is e;

@@ -1,5 +1,5 @@
 -- The draft of one who writes: where the caret is, and a text that changes while nothing else does.
-use Rattle.std.specs.Prelude.{ℕ, ◌≡◌, ◌≢◌, ◌≤◌, List, Some}
+use Rattle.std.specs.Prelude.{ℕ, ◌≡◌, ◌≢◌, ◌≤◌, ◌⊎◌, List, Some}
 use Rattle.lx_node.specs.Kinds.{may_hold}
 use Rattle.lx_node.specs.Limits.{most_written}
 use Rattle.lx_node.specs.declared.kind.Kind.TheVariants.{Text}
@@ -25,6 +25,10 @@ pub record IsSound (w : Working) : Type 0 where
 -- a range is selected in a text, from its anchor to its focus, of this format
 abbrev pub SelectsIn : ℕ → ℕ → ℕ → ℕ → Working → Type 0
 SelectsIn k anchor focus format w = w.selection ≡ Range (text_point k anchor) (text_point k focus) format
+
+-- what is between two offsets of a text is selected, whichever point comes first
+abbrev pub Selects : ℕ → ℕ → ℕ → ℕ → Working → Type 0
+Selects k from to format w = SelectsIn k from to format w ⊎ SelectsIn k to from format w
 
 -- the caret is at an offset of a text: both points of the selection are there
 abbrev pub HasCaret : ℕ → ℕ → ℕ → Working → Type 0

@@ -1,5 +1,5 @@
 -- What it means to delete in a text.
-use Rattle.std.specs.Prelude.{ℕ, ◌≡◌, ◌<◌, ◌++◌, true, false, List, [], Some, Ok}
+use Rattle.std.specs.Prelude.{ℕ, ◌≡◌, ◌<◌, ◌++◌, ◌⊎◌, Bool, true, false, List, [], Some, Ok}
 use Rattle.lx_node.specs.declared.fields.TextFields.{TextFields}
 use Rattle.lx_text.specs.Texts.{text_length, front_of, rest_of, slice_of}
 use Rattle.lx_text.specs.Clusters.{cluster_before, cluster_after, word_before, word_after}
@@ -10,7 +10,7 @@ use Rattle.lx_caret.specs.Removing.{remove_text_step}
 use Rattle.lx_caret.specs.Deleting.{delete_character_step, delete_word_step}
 use Rattle.lx_edit.specs.Edits.{text_point}
 use Rattle.lx_caret_laws.specs.Reading.{ReadsBetween}
-use Rattle.lx_caret_laws.specs.Carets.{IsSound, SelectsIn, HasCaret, OnlyReads}
+use Rattle.lx_caret_laws.specs.Carets.{IsSound, Selects, HasCaret, OnlyReads}
 
 -- exactly what a text had between two offsets is gone: it reads what was before it and what was after it, the caret stands
 -- between, and nothing else changed; so in each element around, what is read is without it
@@ -20,6 +20,13 @@ pub record IsGone (k from to format : ℕ) (text : List ℕ) (w v : Working) : T
   pub read : OnlyReads k (front_of from text ++ rest_of to text) w.forest v.forest
   pub caret : HasCaret k from format v
   pub around : ReadsBetween (text_point k from) (text_point k to) [] w.forest v.forest
+
+-- something is selected in a normal text
+pub record IsSelectedIn (k from to format : ℕ) (text : TextFields) (w : Working) : Type 0 where
+  pub sound : IsSound w
+  pub normal : normal_at w.forest k ≡ Some text
+  pub some : from < to
+  pub selects : Selects k from to format w
 
 -- a caret in a normal text that is in a block
 pub record IsCaretIn (k at format : ℕ) (text : TextFields) (w : Working) : Type 0 where
@@ -31,11 +38,11 @@ pub record IsCaretIn (k at format : ℕ) (text : TextFields) (w : Working) : Typ
 
 -- what is selected in a text is removed, and a cluster or word beside the caret is deleted, exactly
 pub record DeletingIsExact : Type 0 where
-  -- what is selected in a normal text, whichever point comes first
-  pub removed : (k from to format : ℕ) (text : TextFields) (w v : Working) → IsSound w → normal_at w.forest k ≡ Some text → from < to →
-      SelectsIn k from to format w → remove_text_step w ≡ Ok v → IsGone k from to format text.text w v
-  pub removed_back : (k from to format : ℕ) (text : TextFields) (w v : Working) → IsSound w → normal_at w.forest k ≡ Some text → from < to →
-      SelectsIn k to from format w → remove_text_step w ≡ Ok v → IsGone k from to format text.text w v
+  -- what is selected in a normal text, whether it is removed or deleted
+  pub removed : (k from to format : ℕ) (text : TextFields) (w v : Working) → IsSelectedIn k from to format text w → remove_text_step w ≡ Ok v →
+      IsGone k from to format text.text w v
+  pub selection_deleted : (back : Bool) (k from to format : ℕ) (text : TextFields) (w v : Working) → IsSelectedIn k from to format text w →
+      (delete_character_step back w ≡ Ok v) ⊎ (delete_word_step back w ≡ Ok v) → IsGone k from to format text.text w v
   -- the cluster before the caret, where there are characters before it in the text, and the one after it, where there are some
   pub character_before : (k at format : ℕ) (text : TextFields) (w v : Working) → IsCaretIn k at format text w → 0 < at →
       delete_character_step true w ≡ Ok v → IsGone k (cluster_before text.text at) at format text.text w v

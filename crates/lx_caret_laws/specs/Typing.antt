@@ -9,6 +9,7 @@ use Rattle.lx_select.specs.declared.selection.Selection.TheVariants.{Range}
 use Rattle.lx_caret.specs.Adding.{is_inside}
 use Rattle.lx_caret.specs.Inserting.{insert_text_step, insert_line_break_step, insert_tab_step}
 use Rattle.lx_edit.specs.Edits.{text_point}
+use Rattle.lx_caret_laws.specs.Deleting.{IsSelectedIn}
 use Rattle.lx_caret_laws.specs.Reading.{ReadsBetween}
 use Rattle.lx_caret_laws.specs.Carets.{IsSound, HasCaret, OnlyReads}
 
@@ -18,6 +19,12 @@ pub record IsTyped (typed : List ℕ) (k at : ℕ) (text : TextFields) (w v : Wo
   pub normal : normal_at w.forest k ≡ Some text
   pub caret : HasCaret k at text.format w
   pub done : insert_text_step typed w ≡ Ok v
+
+-- what a text had between two offsets gave way to what was typed, after which the caret stands, and nothing else changed
+pub record IsTypedOver (typed : List ℕ) (k from to format : ℕ) (text : List ℕ) (w v : Working) : Type 0 where
+  pub read : OnlyReads k (front_of from text ++ typed ++ rest_of to text) w.forest v.forest
+  pub around : ReadsBetween (text_point k from) (text_point k to) typed w.forest v.forest
+  pub caret : HasCaret k (from + text_length typed) format v
 
 -- the caret of a draft is at a point on any node, but not strictly inside a tab, or a text that isn't normal, which typing never
 -- cuts
@@ -37,7 +44,10 @@ pub record TypingIsRead : Type 0 where
   -- so in each element around it is read between what was read before the caret and what was read after it
   pub around : (typed : List ℕ) (k at : ℕ) (text : TextFields) (w v : Working) → IsTyped typed k at text w v →
       ReadsBetween (text_point k at) (text_point k at) typed w.forest v.forest
-  -- and this is so wherever one types: in the text, in a new one beside it or between its parts, or in an element
+  -- what is selected in a normal text of the selection's format gives way to what is typed
+  pub over : (typed : List ℕ) (k from to : ℕ) (text : TextFields) (w v : Working) → IsSelectedIn k from to text.format text w →
+      insert_text_step typed w ≡ Ok v → IsTypedOver typed k from to text.format text.text w v
+  -- what is typed at a caret is read there wherever one types: in the text, in a new one beside it or between its parts, or in an element
   pub anywhere : (typed : List ℕ) (p : Point) (format : ℕ) (w v : Working) → IsCaretAt p format w → typed ≢ [] → insert_text_step typed w ≡ Ok v →
       ReadsBetween p p typed w.forest v.forest
   -- a tab is read there as its character, and around a line break the same is read as before
