@@ -11,7 +11,6 @@ use Rattle.lx_caret_laws.proofs.ReadLevels.{reads_alike}
 use Rattle.lx_caret_laws.proofs.Spliced.{text_of_normal}
 use Rattle.lx_caret_laws.proofs.SplitSaid.{split_read}
 use Rattle.lx_caret_laws.specs.Carets.{IsSound}
-use Rattle.lx_caret_laws.specs.Formatting.{FormattingKeepsText}
 use Rattle.lx_caret_laws.specs.Reading.{ReadsTheSame, read_in, said}
 use Rattle.lx_draft.proofs.Covered.{answered}
 use Rattle.lx_draft.proofs.Touched.{is_some-kind_of}
@@ -43,9 +42,9 @@ use Rattle.std.specs.Prelude.{is_some}
 -- ---- drafts in which the same is read
 
 -- a draft became another in which the same is read
-record Unread (w v : Working) : Type 0 where
-  stays : Stays w v
-  same : ReadsTheSame w.forest v.forest
+pub record Unread (w v : Working) : Type 0 where
+  pub stays : Stays w v
+  pub same : ReadsTheSame w.forest v.forest
 
 element_stays : (w v : Working) (b : ℕ) → Stays w v → is_at is_element w.forest b ≡ true → is_at is_element v.forest b ≡ true
 element_stays w v b s e = by_kind (kind_of w.forest b) refl e where
@@ -67,7 +66,7 @@ unread_ok w v fit e = subst (Unread w) (was_same w v e) (unread_self w fit)
 
 -- ---- a piece by itself
 
-isolate_unread : (p : _) (w v : Working) → Fit w → isolate_step p w ≡ Ok v → Unread w v
+pub isolate_unread : (p : _) (w v : Working) → Fit w → isolate_step p w ≡ Ok v → Unread w v
 unfolding isolate_step
 isolate_unread p w v fit e = by_text (normal_at w.forest p.key) refl e where
   by_text : (o : Option TextFields) → normal_at w.forest p.key ≡ o → cond (is_some o) (split_step p.key (edges w.forest p) w) (Ok w) ≡ Ok v → Unread w v
@@ -128,7 +127,7 @@ set_unread k t u w v fit is same e =
       };
     }
 
-switch_unread : (on : Bool) (bit k : ℕ) (w v : Working) → Fit w → switch_step on bit k w ≡ Ok v → Unread w v
+pub switch_unread : (on : Bool) (bit k : ℕ) (w v : Working) → Fit w → switch_step on bit k w ≡ Ok v → Unread w v
 unfolding switch_step
 switch_unread on bit k w v fit e = by_fields (fields_of w.forest k) refl e where
   by_fields : (o : Option Fields) → fields_of w.forest k ≡ o → switched_in on bit o k w ≡ Ok v → Unread w v
@@ -167,13 +166,10 @@ formatted_unread bit (p ∷ ps) format w v fit e =
     let apart = isolated_unread (p ∷ ps) w first.0 fit first.1.0 in
     switched_unread bit first.0.texts w first.0.draft v apart.stays.fit apart.same apart first.1.1
 
-format_unread : (bit : ℕ) (w v : Working) → IsSound w → format_text_step bit w ≡ Ok v → ReadsTheSame w.forest v.forest
+pub format_unread : (bit : ℕ) (w v : Working) → IsSound w → format_text_step bit w ≡ Ok v → ReadsTheSame w.forest v.forest
 unfolding format_text_step
 format_unread bit w v sound e =
     let first = after_tells (range_of w) (λ r. formatted bit (pieces w.forest (start_of w.forest r) (end_of w.forest r)) r.format w) v e in
     let is = range_lies w first.0 first.1.0 in
     formatted_unread bit (pieces w.forest (start_of w.forest first.0) (end_of w.forest first.0)) first.0.format w v
     (fit_of w first.0 sound.ready sound.held sound.short is) first.1.1
-
-pub told-formatting : FormattingKeepsText
-told-formatting = record { read = λ bit w v sound e. format_unread bit w v sound e }

@@ -3,6 +3,7 @@ pub mod BrokenParts
 pub mod BrokenUp
 pub mod EditedIn
 pub mod Formatted
+pub mod FormattedAside
 pub mod Gone
 pub mod InPlace
 pub mod Opened

@@ -46,7 +46,7 @@ text_few w k t sound here =
 
 -- ---- the forest
 
-label_other : (f : Forest) (k : ℕ) (x : Fields) (q : ℕ) → q ≢ k → label_of (with_fields k x f) q ≡ label_of f q
+pub label_other : (f : Forest) (k : ℕ) (x : Fields) (q : ℕ) → q ≢ k → label_of (with_fields k x f) q ≡ label_of f q
 label_other f k x q other = label_of-with_fields k x f q ∙ by_label (label_of f q) refl where
   by_label : (o : Option Label) → label_of f q ≡ o → option_map (fields_at k x) o ≡ o
   by_label None is = refl

@@ -18,6 +18,7 @@ use Rattle.lx_edit.specs.Edits.{pointed}
 use Rattle.lx_edit.specs.Texts.{cut_at, cut_in_two, keys_from, split_step, tail_made, tail_of, text_or_none}
 use Rattle.lx_edit_laws.proofs.Reading.{childless_text}
 use Rattle.lx_edit_laws.proofs.SplitLaws.{IsCutUp, IsLeft, cut_up, left}
+use Rattle.lx_edit_laws.proofs.SplitPieces.{AllStay, stay_self}
 use Rattle.lx_edit_laws.proofs.WrapSteps.{was_allowed, was_same}
 use Rattle.lx_edit_laws.specs.Reading.{in_place_of, texts_of}
 use Rattle.lx_edit_laws.specs.Reading as told
@@ -129,3 +130,23 @@ split_read k list t w v ready held short here e = by_list list (cut_up k list w 
         fits = subst (λ s. text_length s ≤ last_u32) (sym (ap text_or_none here)) few;
       } in
       same_read k (o ∷ rest) new t w v ready.in_order held here (left k (o ∷ rest) (k ∷ new) w v s) b other so
+
+-- and all but the text and its parent stays
+pub split_stays : (k : ℕ) (list : List ℕ) (t : TextFields) (w v : Working) → IsReady w → TextsAreShort w → text_in (label_of w.forest k) ≡ Some t
+    → split_step k list w ≡ Ok v → (new : List ℕ) × AllStay k new w v
+split_stays k list t w v ready short here e = by_list list (cut_up k list w v e).cut e where
+  by_list : (list : List ℕ) → cut_at k 0 list w ≡ Ok v → split_step k list w ≡ Ok v → (new : List ℕ) × AllStay k new w v
+  by_list [] cut e = ([], subst (AllStay k [] w) (was_same w v cut) (stay_self k w ready))
+  by_list (o ∷ rest) cut e =
+      let written : w.written ≤ most_written = cut_written k o rest w v cut in
+      let few : text_length t.text ≤ last_u32 =
+      u32-tells (text_length t.text) w.written
+      (subst (λ x. text_length (text_of x) ≤ 2 * (most_characters + w.written)) (text_at w.forest k t here).fields_are (short.each k)) written in
+      let new : List ℕ = keys_from w.next_key (length (o ∷ rest)) in
+      let s : IsSplit k (o ∷ rest) (k ∷ new) w v = record {
+        ready = ready;
+        split = e;
+        pieces_are = refl;
+        fits = subst (λ s. text_length s ≤ last_u32) (sym (ap text_or_none here)) few;
+      } in
+      (new, (left k (o ∷ rest) (k ∷ new) w v s).stay)

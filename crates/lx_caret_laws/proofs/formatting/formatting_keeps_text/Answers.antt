@@ -1,4 +1,4 @@
-use Rattle.lx_caret_laws.proofs.Formatted.{told-formatting}
+use Rattle.lx_caret_laws.proofs.FormattedAside.{told-formatting}
 use Rattle.lx_caret_laws.proofs.formatting.formatting_keeps_text.Goals as goal
 
 pub returns : goal.returns
