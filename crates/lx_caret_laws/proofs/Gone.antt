@@ -6,19 +6,19 @@ use Rattle.lx_blocks.specs.Ranges.{caret_at, characters_at, end_of, is_collapsed
 use Rattle.lx_blocks.specs.declared.ranges.Ranged.{Ranged}
 use Rattle.lx_caret.proofs.Fit.{after_tells}
 use Rattle.lx_caret.proofs.Lies.{text_at}
-use Rattle.lx_caret.specs.Deleting.{Reach, cluster_reach, delete_character_step, delete_step, delete_word_step, deleted_in, erase_step, erased, has_more, leaf_beside, leaf_or_line, word_reach}
+use Rattle.lx_caret.specs.Deleting.{Reach, cluster_reach, delete_character_step, delete_step, delete_word_step, deleted_in, edge, erase_step, erased, has_more, leaf_beside, leaf_or_line, leaf_step, word_reach}
 use Rattle.lx_caret.specs.Removing.{are_apart, cut_step, end_cut, merge_step, remove_between, remove_text_step, removed_below, removed_empty, removed_in, start_cut}
 use Rattle.lx_caret_laws.proofs.AtCaret.{collapsed, goes, ranged, taken}
 use Rattle.lx_caret_laws.proofs.EditedIn.{edited_around}
 use Rattle.lx_forest.proofs.Order.{IsForest-with_fields}
 use Rattle.lx_caret_laws.proofs.Spliced.{only_reads, text_of_normal, text_few, was_spliced}
 use Rattle.lx_caret_laws.specs.Carets.{HasCaret, IsSound, OnlyReads, SelectsIn}
-use Rattle.lx_caret_laws.specs.Deleting.{DeletingIsExact, IsCaretIn, IsGone, IsSelectedIn}
+use Rattle.lx_caret_laws.specs.Deleting.{DeletingIsExact, IsBesideText, IsCaretIn, IsGone, IsOut, IsSelectedIn}
 use Rattle.lx_draft.specs.Faults.{after, text_in}
 use Rattle.lx_draft.specs.Selecting.{length_of, length_told}
 use Rattle.lx_draft.specs.Steps.{splice_points, splice_step}
 use Rattle.lx_draft.specs.Working.{Working}
-use Rattle.lx_edit.specs.Edits.{moved_to_end, text_point}
+use Rattle.lx_edit.specs.Edits.{moved_to_end, remove_step, text_point}
 use Rattle.lx_edit.specs.InTurn.{in_turn}
 use Rattle.lx_forest.proofs.Within.{is_within-self}
 use Rattle.lx_forest.specs.Forest.{Forest}
@@ -31,10 +31,10 @@ use Rattle.lx_node.specs.declared.fields.TextFields.{TextFields}
 use Rattle.lx_select.specs.Rules.{offset_sum, splice_moves, spliced_offset}
 use Rattle.lx_select.specs.Selection.{each_point}
 use Rattle.lx_select.specs.declared.selection.Selection.TheVariants.{Range}
-use Rattle.lx_text.proofs.Places.{offset_is}
+use Rattle.lx_text.proofs.Places.{length-some, offset_is}
 use Rattle.lx_text.proofs.Told.{offset_within, piece_of, pieces-whole, told-all, told-none}
 use Rattle.lx_text.specs.Texts.{front_of, rest_of, spliced_text, text_length}
-use Rattle.std.proofs.Common.{Bool, List, None, Ok, Option, Result, Some, [], ap, ap₂, append-nil, arith, cond, eqb, false, inl, inr, refl, subst, sym, true, ℕ, ◌++◌, ◌<◌, ◌∙◌, ◌∷◌, ◌≡◌, ◌≤◌, ◌⊎◌}
+use Rattle.std.proofs.Common.{Bool, List, None, Ok, Option, Result, Some, [], ap, ap₂, append-nil, arith, cond, eqb, false, inl, inr, refl, subst, sym, true, ℕ, ◌++◌, ◌<◌, ◌∙◌, ◌∷◌, ◌≡◌, ◌≢◌, ◌≤◌, ◌⊎◌}
 use Rattle.std.proofs.lemmas.Bool.Decides.{eqb_tells, nat_tests}
 use Rattle.std.proofs.lemmas.Bool.{cases_Bool}
 use Rattle.lx_trees.specs.Siblings.{first_of}
@@ -51,23 +51,31 @@ point_left k from to o order few (inr at) =
     let own : eqb k k ≡ true = grind (arith, eqb_tells k k) in
     rw (own, at, told-none) (ap (text_point k) (grind (arith, order, few, nat_tests)))
 
+pub out : (k from to : ℕ) (t : TextFields) (w v : Working) → IsSound w → text_in (label_of w.forest k) ≡ Some t → splice_step k from to [] w ≡ Ok v
+    → IsOut k from to t.text w v
+unfolding spliced_text
+out k from to t w v sound here e =
+    let s = was_spliced k from to [] t w v sound.short here e in
+    let piece = piece_of from to t.text s.piece in
+    let read : OnlyReads k (front_of from t.text ++ [] ++ rest_of to t.text) w.forest v.forest =
+    subst (λ g. OnlyReads k (spliced_text from to [] t.text) w.forest g) (sym s.forest) (only_reads w.forest k t (spliced_text from to [] t.text) here) in
+    let order : IsForest v.forest = subst IsForest (sym s.forest) (IsForest-with_fields k _ w.forest sound.ready.in_order) in
+    record {
+      parted = pieces-whole from to t.text s.piece;
+      length = offset_is from t.text piece.first;
+      read = subst (λ now. OnlyReads k now w.forest v.forest) (ap (λ cs. cs ++ rest_of to t.text) (append-nil (front_of from t.text))) read;
+      around = edited_around w.forest v.forest k from to [] t sound.ready.in_order order sound.held here s.piece read;
+    }
+
 pub gone : (k from to o format : ℕ) (t : TextFields) (w v : Working) → IsSound w → text_in (label_of w.forest k) ≡ Some t
     → HasCaret k o format w → (o ≡ from) ⊎ (o ≡ to) → splice_step k from to [] w ≡ Ok v → IsGone k from to format t.text w v
-unfolding spliced_text
 gone k from to o format t w v sound here caret ends e =
     let s = was_spliced k from to [] t w v sound.short here e in
     let piece = piece_of from to t.text s.piece in
     let few : from ≤ last_u32 = omega (arith, offset_within from t.text piece.first, text_few w k t sound here) in
     record {
-      parted = pieces-whole from to t.text s.piece;
-      length = offset_is from t.text piece.first;
-      read = subst (λ now. OnlyReads k now w.forest v.forest) (ap (λ cs. cs ++ rest_of to t.text) (append-nil (front_of from t.text)))
-          (subst (λ g. OnlyReads k (spliced_text from to [] t.text) w.forest g) (sym s.forest) (only_reads w.forest k t (spliced_text from to [] t.text) here));
-      caret = s.selection ∙ ap (splice_points k from to []) caret
-          ∙ ap (λ p. Range p p format) (point_left k from to o piece.in_order few ends);
-      around = edited_around w.forest v.forest k from to [] t sound.ready.in_order (subst IsForest (sym s.forest) (IsForest-with_fields k _ w.forest sound.ready.in_order))
-          sound.held here s.piece
-          (subst (λ g. OnlyReads k (spliced_text from to [] t.text) w.forest g) (sym s.forest) (only_reads w.forest k t (spliced_text from to [] t.text) here));
+      out = out k from to t w v sound here e;
+      caret = s.selection ∙ ap (splice_points k from to []) caret ∙ ap (λ p. Range p p format) (point_left k from to o piece.in_order few ends);
     }
 
 -- ---- a range in a text
@@ -175,7 +183,10 @@ pub cut_gone : (k from to format : ℕ) (t : TextFields) (w v : Working) → IsS
 cut_gone k from to format t w v is c =
     let told = gone k from to from format t (caret_at (text_point k from) w) v (caret_sound k from w is.sound) (text_of_normal w.forest k t is.normal) c.caret
     (inl refl) c.cut in
-    record { parted = told.parted; length = told.length; read = told.read; caret = told.caret; around = told.around }
+    record {
+      out = record { parted = told.out.parted; length = told.out.length; read = told.out.read; around = told.out.around };
+      caret = told.caret;
+    }
 
 -- a selection that is deleted is removed
 deleted_goes : (back : Bool) (reach : Reach) (a b : Point) (format : ℕ) (w v : Working) → w.selection ≡ Range a b format
@@ -241,6 +252,47 @@ gone_after reach k at format t w v is some e =
     let more : nat_lt at (characters_at w.forest k) ≡ true = grind (arith, length, some, nat_tests) in
     gone k at (reach t.text at) at format t w v is.sound here is.caret (inl refl) (erased_at false reach k at format t w v is more e)
 
+-- ---- in the leaf beside
+
+-- a leaf that is a normal text with characters loses what the reach goes over at the near end
+leaf_out : (back : Bool) (reach : Reach) (leaf : ℕ) (t : TextFields) (p : Point) (format : ℕ) (w v : Working) → IsBesideText back leaf t p format w
+    → delete_step back reach w ≡ Ok v → erased back reach leaf (edge back (text_length t.text)) (Some t) w ≡ Ok v
+unfolding delete_step leaf_step erase_step
+leaf_out back reach leaf t p format w v is e =
+    let r : Ranged = ranged p p format in
+    let here : text_in (label_of w.forest leaf) ≡ Some t = text_of_normal w.forest leaf t is.normal in
+    let first = after_tells (range_of w) (λ r. cond (is_collapsed r) (deleted_in back reach r.anchor (block_of w.forest r.anchor.key) w) (removed_in r w)) v e in
+    let took = taken p p format w first.0 is.caret first.1.0 in
+    let same : first.0 ≡ r =
+    let both_are : ◌≡◌ {A = Result Ranged Cause} (Ok first.0) (Ok r) = sym first.1.0 ∙ took.is in cc in
+    let whole : cond (is_collapsed r) (deleted_in back reach p (block_of w.forest p.key) w) (removed_in r w) ≡ Ok v =
+    ap (λ r. cond (is_collapsed r) (deleted_in back reach r.anchor (block_of w.forest r.anchor.key) w) (removed_in r w)) (sym same) ∙ first.1.1 in
+    let deleted : deleted_in back reach p (block_of w.forest p.key) w ≡ Ok v =
+    sym (ap (λ b. cond b (deleted_in back reach p (block_of w.forest p.key) w) (removed_in r w)) (collapsed p format)) ∙ whole in
+    let inside : deleted_in back reach p (Some is.block) w ≡ Ok v = sym (ap (λ o. deleted_in back reach p o w) is.within) ∙ deleted in
+    let beside : leaf_or_line back reach is.block (Some leaf) w ≡ Ok v =
+    sym (ap (λ b. cond b (erase_step back reach p.key p.offset w) (leaf_or_line back reach is.block (leaf_beside back w.forest is.block p) w)) is.at_edge
+    ∙ ap (λ o. leaf_or_line back reach is.block o w) is.beside) ∙ inside in
+    let length : characters_at w.forest leaf ≡ text_length t.text =
+    ap length_of (text_at w.forest leaf t here).fields_are ∙ told-all t.text (text_few w leaf t is.sound here) in
+    let some : eqb (characters_at w.forest leaf) 0 ≡ false = ap (λ n. eqb n 0) length ∙ not_none t.text is.some in
+    sym (ap (λ b. cond b (remove_step leaf w) (erased back reach leaf (edge back (characters_at w.forest leaf)) (normal_at w.forest leaf) w)) some
+    ∙ ap₂ (λ n o. erased back reach leaf (edge back n) o w) length is.normal) ∙ beside where
+      not_none : (text : List ℕ) → text ≢ [] → eqb (text_length text) 0 ≡ false
+      not_none [] some = absurd (some refl)
+      not_none (c ∷ cs) some = grind (arith, length-some c cs, eqb_tells (text_length (c ∷ cs)) 0)
+
+last_out : (reach : Reach) (leaf : ℕ) (t : TextFields) (p : Point) (format : ℕ) (w v : Working) → IsBesideText true leaf t p format w
+    → delete_step true reach w ≡ Ok v → IsOut leaf (reach t.text (text_length t.text)) (text_length t.text) t.text w v
+last_out reach leaf t p format w v is e =
+    out leaf (reach t.text (text_length t.text)) (text_length t.text) t w v is.sound (text_of_normal w.forest leaf t is.normal)
+    (leaf_out true reach leaf t p format w v is e)
+
+first_out : (reach : Reach) (leaf : ℕ) (t : TextFields) (p : Point) (format : ℕ) (w v : Working) → IsBesideText false leaf t p format w
+    → delete_step false reach w ≡ Ok v → IsOut leaf 0 (reach t.text 0) t.text w v
+first_out reach leaf t p format w v is e =
+    out leaf 0 (reach t.text 0) t w v is.sound (text_of_normal w.forest leaf t is.normal) (leaf_out false reach leaf t p format w v is e)
+
 -- ---- the laws
 
 pub told-deleting : DeletingIsExact
@@ -251,8 +303,12 @@ told-deleting = record {
       | inl character ↦ deleted_gone back (cluster_reach back) k from to format t w v is character
       | inr word ↦ deleted_gone back (word_reach back) k from to format t w v is word
     ];
-  character_before = λ k at format t w v is some e. gone_before (cluster_reach true) k at format t w v is some e;
-  character_after = λ k at format t w v is some e. gone_after (cluster_reach false) k at format t w v is some e;
-  word_before = λ k at format t w v is some e. gone_before (word_reach true) k at format t w v is some e;
-  word_after = λ k at format t w v is some e. gone_after (word_reach false) k at format t w v is some e;
+  character_back = λ k at format t w v is some e. gone_before (cluster_reach true) k at format t w v is some e;
+  character_on = λ k at format t w v is some e. gone_after (cluster_reach false) k at format t w v is some e;
+  word_back = λ k at format t w v is some e. gone_before (word_reach true) k at format t w v is some e;
+  word_on = λ k at format t w v is some e. gone_after (word_reach false) k at format t w v is some e;
+  last_character = λ leaf t p format w v is e. last_out (cluster_reach true) leaf t p format w v is e;
+  first_character = λ leaf t p format w v is e. first_out (cluster_reach false) leaf t p format w v is e;
+  last_word = λ leaf t p format w v is e. last_out (word_reach true) leaf t p format w v is e;
+  first_word = λ leaf t p format w v is e. first_out (word_reach false) leaf t p format w v is e;
 }

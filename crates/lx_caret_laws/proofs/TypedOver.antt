@@ -126,16 +126,16 @@ typed_over new k from to t w v is e =
         short = fit.short;
         written = splice_allowed k from to [] (caret_at (text_point k from) w) u c.cut;
       };
-      normal = normal_still w.forest u.forest k t left is.normal gone.read;
+      normal = normal_still w.forest u.forest k t left is.normal gone.out.read;
       caret = gone.caret;
       done = again;
     } in
     let into = (is_read new k from (record t { text = left }) u v in_it).into in
-    let front : front_of from left ≡ front_of from t.text = front_at from (front_of from t.text) (rest_of to t.text) left refl gone.length in
-    let rest : rest_of from left ≡ rest_of to t.text = rest_at from (front_of from t.text) (rest_of to t.text) left refl gone.length in
+    let front : front_of from left ≡ front_of from t.text = front_at from (front_of from t.text) (rest_of to t.text) left refl gone.out.length in
+    let rest : rest_of from left ≡ rest_of to t.text = rest_at from (front_of from t.text) (rest_of to t.text) left refl gone.out.length in
     let second : OnlyReads k (front_of from t.text ++ new ++ rest_of to t.text) u.forest v.forest =
     subst (λ now. OnlyReads k now u.forest v.forest) (ap₂ (λ a b. a ++ new ++ b) front rest) into.read in
-    let read = reads_then w.forest u.forest v.forest k t left (front_of from t.text ++ new ++ rest_of to t.text) here gone.read second in
+    let read = reads_then w.forest u.forest v.forest k t left (front_of from t.text ++ new ++ rest_of to t.text) here gone.out.read second in
     record {
       read = read;
       around = edited_around w.forest v.forest k from to new t is.sound.ready.in_order into.ordered is.sound.held here s.piece read;
