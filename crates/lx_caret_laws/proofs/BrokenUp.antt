@@ -310,10 +310,12 @@ made_next s m block moved so e = by_label (label_of s.forest block) refl e where
     made = e;
   }
 
--- where the caret is doesn't matter
-same_forest : (place block new k : ℕ) (w v : Working) (caret : Point) → IsPartedAt place block new k w v → IsPartedAt place block new k w (caret_at caret v)
-same_forest place block new k w v caret i =
-    record { inside = i.inside; before = i.before; behind = i.behind; fresh = i.fresh; order = i.order; aside = i.aside }
+-- where the caret is set at last doesn't matter
+parted_then : (place block new k : ℕ) (w u v : Working) (caret : Point) → ◌≡◌ {A = Result Working Cause} (Ok (caret_at caret u)) (Ok v)
+    → IsPartedAt place block new k w u → IsPartedAt place block new k w v
+parted_then place block new k w u v caret e i =
+    subst (IsPartedAt place block new k w) (was_same (caret_at caret u) v e)
+    (record { inside = i.inside; before = i.before; behind = i.behind; fresh = i.fresh; order = i.order; aside = i.aside })
 
 moved_parted : (block k at : ℕ) (rest : List ℕ) (w s v : Working) (i : ℕ) → IsSound w → lies w.forest (text_point k at) ≡ true → parent_of w.forest k ≡ Some block
     → IsOpened k at rest w s → index_in (children_of s.forest block) k ≡ Some i
@@ -339,9 +341,8 @@ moved_parted block k at rest w s v i sound place up o is e =
     λ c among. parent_here two.0.forest block c b.ordered (ap (is_among c) (b.children block apart) ∙ among_drop (place_of (Some i) at) cs c among) in
     let over = went_over block n moved two.0 three.0 b.ordered two_apart
     (once_drop (place_of (Some i) at) cs (NoRepeats-children_of s.forest block sh)) ups three.1.0 in
-    subst (IsPartedAt (place_in w.forest block (text_point k at)) block n k w) (was_same (caret_at (start_of_first three.0.forest n moved) three.0) v three.1.1)
-    (same_forest (place_in w.forest block (text_point k at)) block n k w three.0 (start_of_first three.0.forest n moved)
-    (are_parted block k at rest w s sound place up o n i made.kind made.fields two.0 three.0 is refl b over))
+    parted_then (place_in w.forest block (text_point k at)) block n k w three.0 v (start_of_first three.0.forest n moved) three.1.1
+    (are_parted block k at rest w s sound place up o n i made.kind made.fields two.0 three.0 is refl b over)
 
 -- ---- the command
 

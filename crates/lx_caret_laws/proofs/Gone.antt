@@ -5,7 +5,8 @@ use Rattle.lx_blocks.specs.Places.{covered, outermost, until}
 use Rattle.lx_blocks.specs.Ranges.{caret_at, characters_at, end_of, is_collapsed, normal_at, range_of, start_of}
 use Rattle.lx_blocks.specs.declared.ranges.Ranged.{Ranged}
 use Rattle.lx_caret.proofs.Fit.{after_tells}
-use Rattle.lx_caret.proofs.Lies.{text_at}
+use Rattle.lx_caret.proofs.Lies.{both, text_at}
+use Rattle.lx_caret_laws.proofs.InBlocks.{text_in_block}
 use Rattle.lx_caret.specs.Deleting.{Reach, cluster_reach, delete_character_step, delete_step, delete_word_step, deleted_in, edge, erase_step, erased, has_more, leaf_beside, leaf_or_line, leaf_step, word_reach}
 use Rattle.lx_caret.specs.Removing.{are_apart, cut_step, end_cut, merge_step, remove_between, remove_text_step, removed_below, removed_empty, removed_in, start_cut}
 use Rattle.lx_caret_laws.proofs.AtCaret.{collapsed, goes, ranged, taken}
@@ -15,7 +16,7 @@ use Rattle.lx_caret_laws.proofs.Spliced.{only_reads, text_of_normal, text_few, w
 use Rattle.lx_caret_laws.specs.Carets.{HasCaret, IsSound, OnlyReads, SelectsIn}
 use Rattle.lx_caret_laws.specs.Deleting.{DeletingIsExact, IsBesideText, IsCaretIn, IsGone, IsOut, IsSelectedIn}
 use Rattle.lx_draft.specs.Faults.{after, text_in}
-use Rattle.lx_draft.specs.Selecting.{length_of, length_told}
+use Rattle.lx_draft.specs.Selecting.{lies_in, length_of, length_told}
 use Rattle.lx_draft.specs.Steps.{splice_points, splice_step}
 use Rattle.lx_draft.specs.Working.{Working}
 use Rattle.lx_edit.specs.Edits.{moved_to_end, remove_step, text_point}
@@ -217,7 +218,7 @@ deleted_gone back reach k from to format t w v is e = elim is.selects [
 
 -- ---- next to a caret
 
--- what the reach goes over is cut out of a normal text in a block
+-- what the reach goes over is cut out of a normal text
 erased_at : (back : Bool) (reach : Reach) (k at format : ℕ) (t : TextFields) (w v : Working) → IsCaretIn k at format t w
     → has_more back w.forest (text_point k at) point.Text ≡ true → delete_step back reach w ≡ Ok v → erased back reach k at (Some t) w ≡ Ok v
 unfolding delete_step erase_step
@@ -232,9 +233,12 @@ erased_at back reach k at format t w v is more e =
     ap (λ r. cond (is_collapsed r) (deleted_in back reach r.anchor (block_of w.forest r.anchor.key) w) (removed_in r w)) (sym same) ∙ first.1.1 in
     let deleted : deleted_in back reach p (block_of w.forest k) w ≡ Ok v =
     sym (ap (λ b. cond b (deleted_in back reach p (block_of w.forest k) w) (removed_in r w)) (collapsed p format)) ∙ here in
-    let inside : deleted_in back reach p (Some is.block) w ≡ Ok v = sym (ap (λ o. deleted_in back reach p o w) is.within) ∙ deleted in
+    let text = text_at w.forest k t (text_of_normal w.forest k t is.normal) in
+    let place : is_attached w.forest k ≡ true = (both (is_attached w.forest k) (lies_in w.forest p) took.anchor).0 in
+    let block = text_in_block w.forest k is.sound.ready.in_order is.sound.held place text.kind_is in
+    let inside : deleted_in back reach p (Some block.0) w ≡ Ok v = sym (ap (λ o. deleted_in back reach p o w) block.1) ∙ deleted in
     sym (ap (λ o. erased back reach k at o w) is.normal)
-    ∙ sym (ap (λ b. cond b (erased back reach k at (normal_at w.forest k) w) (leaf_or_line back reach is.block (leaf_beside back w.forest is.block p) w)) more)
+    ∙ sym (ap (λ b. cond b (erased back reach k at (normal_at w.forest k) w) (leaf_or_line back reach block.0 (leaf_beside back w.forest block.0 p) w)) more)
     ∙ inside
 
 gone_before : (reach : Reach) (k at format : ℕ) (t : TextFields) (w v : Working) → IsCaretIn k at format t w → 0 < at

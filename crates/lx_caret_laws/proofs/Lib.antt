@@ -5,6 +5,7 @@ pub mod EditedIn
 pub mod Formatted
 pub mod FormattedAside
 pub mod Gone
+pub mod InBlocks
 pub mod InPlace
 pub mod Opened
 pub mod Placed

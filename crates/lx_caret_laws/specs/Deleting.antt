@@ -34,12 +34,10 @@ pub record IsSelectedIn (k from to format : ℕ) (text : TextFields) (w : Workin
   pub some : from < to
   pub selects : Selects k from to format w
 
--- a caret in a normal text that is in a block
+-- a caret in a normal text
 pub record IsCaretIn (k at format : ℕ) (text : TextFields) (w : Working) : Type 0 where
   pub sound : IsSound w
   pub normal : normal_at w.forest k ≡ Some text
-  pub block : ℕ
-  pub within : block_of w.forest k ≡ Some block
   pub caret : HasCaret k at format w
 
 -- a caret on any node in a block, with nothing on one side of it in its own text; the nearest leaf of the block on that side is a

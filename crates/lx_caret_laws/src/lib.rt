@@ -2,13 +2,15 @@
 //! command is made of edits; these are laws about those steps. There is no code here.
 //!
 //! * What one types is read at the caret, between what was before it and what was after it: in the text there, and in
-//!   each block, cell and document around it. So is a tab; a line break changes nothing that is read
-//!   (`typing_is_read`).
-//! * What is selected in a text and removed, or deleted beside the caret in a text, is exactly what goes: the cluster
-//!   or the word, and nothing else. The caret stands where it was (`deleting_is_exact`).
-//! * Formatting changes no character, whatever is selected (`formatting_keeps_text`).
+//!   each block, cell and document around it. What is selected in a text gives way to it. A tab is read where it is
+//!   put, and a line break changes nothing that is read (`typing_is_read`).
+//! * What one removes or deletes in a text is exactly what is selected, or the cluster or word beside the caret, and
+//!   nothing else (`deleting_is_exact`).
+//! * Formatting changes no character, and no node but the covered texts and their parents (`formatting_keeps_text`).
 //! * A paragraph that is inserted parts what is read in its block at the caret (`breaking_parts_text`).
-//! * Nodes that the caret isn't in stay as they are, but for formatting, of which that isn't said.
+//! * All that the caret isn't in stays as it is, each time.
+//!
+//! Nothing is said of ranges over several texts, nor of lines that are joined.
 #![tactic(auto)]
 
 mod breaking;
