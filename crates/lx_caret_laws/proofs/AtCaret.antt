@@ -87,8 +87,7 @@ pub at_caret : (p : Point) (format : ℕ) (w v : Working) → w.selection ≡ Ra
 at_caret p format w v caret e =
     let told = goes p p format w v caret e in
     let r : Ranged = ranged p p format in
-    let kept : cond (is_collapsed r) (Ok w) (remove_between (start_of w.forest r) (end_of w.forest r) w) ≡ Ok v = told.removed in
-    (
+    let kept : cond (is_collapsed r) (Ok w) (remove_between (start_of w.forest r) (end_of w.forest r) w) ≡ Ok v = told.removed in (
       told.is,
       was_same w v (subst (λ t. cond t (Ok w) (remove_between (start_of w.forest r) (end_of w.forest r) w) ≡ Ok v) (collapsed p format) kept),
     )

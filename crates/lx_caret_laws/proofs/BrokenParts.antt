@@ -1,6 +1,5 @@
 -- The children of a block, parted at one of them: what is read before that place and after it.
 use Rattle.lx_caret_laws.proofs.InPlace.{place-behind, place-here}
-use Rattle.lx_caret_laws.proofs.ReadLevels.{reads-append}
 use Rattle.lx_caret_laws.specs.Reading.{place_along, place_in, read_in, reads_in}
 use Rattle.lx_edit_laws.proofs.Reading.{spread}
 use Rattle.lx_edit_laws.proofs.WrapLists.{filter-gone}
@@ -11,7 +10,7 @@ use Rattle.lx_node.specs.declared.cause.Point.{Point}
 use Rattle.lx_text.proofs.Places.{length-append, length-none}
 use Rattle.lx_text.specs.Texts.{text_length}
 use Rattle.lx_trees.specs.Siblings.{NoRepeats, index_in, is_among}
-use Rattle.std.proofs.Common.{Bool, List, None, Option, Some, [], ap, append-nil, append_assoc, arith, cond, eqb, false, inl, inr, not, refl, subst, suc, sym, true, zero, ℕ, ◌++◌, ◌+◌, ◌∙◌, ◌∷◌, ◌≡◌, ◌≢◌}
+use Rattle.std.proofs.Common.{List, Some, [], ap, append-nil, append_assoc, arith, cond, eqb, false, inl, inr, not, refl, suc, sym, true, zero, ℕ, ◌++◌, ◌+◌, ◌∙◌, ◌∷◌, ◌≡◌, ◌≢◌}
 use Rattle.std.proofs.lemmas.Bool.Decides.{eqb_tells}
 use Rattle.std.proofs.lemmas.Bool.{cases_Bool}
 use Rattle.std.specs.List.{filter}
@@ -104,8 +103,8 @@ module _ (f g : Forest) (p : Point) (k at : ℕ) (rest : List ℕ) (on : p.key �
         let inner = again i once later each (grind (arith, e, other)) in
         let here = place-behind f p x (spread (keys_within f) xs) far in
         let read : text_length (reads_in g (take (suc i) (in_place_of k (k ∷ rest) (x ∷ xs))))
-            ≡ text_length (read_in f x) + text_length (reads_in g (take i (in_place_of k (k ∷ rest) xs))) =
-            ap (λ ys. text_length (reads_in g (take (suc i) ys))) list
-            ∙ length-append (read_in g x) (reads_in g (take i (in_place_of k (k ∷ rest) xs)))
-            ∙ ap (λ t. text_length t + text_length (reads_in g (take i (in_place_of k (k ∷ rest) xs)))) same in
+        ≡ text_length (read_in f x) + text_length (reads_in g (take i (in_place_of k (k ∷ rest) xs))) =
+        ap (λ ys. text_length (reads_in g (take (suc i) ys))) list
+        ∙ length-append (read_in g x) (reads_in g (take i (in_place_of k (k ∷ rest) xs)))
+        ∙ ap (λ t. text_length t + text_length (reads_in g (take i (in_place_of k (k ∷ rest) xs)))) same in
         omega (arith, inner, here, read)

@@ -3,7 +3,7 @@ use Rattle.lx_blocks.specs.Blocks.{block_of, is_at, passes}
 use Rattle.lx_blocks.specs.Places.{until}
 use Rattle.lx_blocks.specs.Ranges.{at_anchor, at_anchor_of, caret_at, lies}
 use Rattle.lx_caret.proofs.Fit.{after_tells}
-use Rattle.lx_caret.specs.Paragraphs.{Block, Broken, Parted, block_cut, block_in, cut_open, draft_left, empty_item, if_empty_item, insert_paragraph_step, moved_on, new_next, next_of_kind, paragraph_at, parted_up, place_of, start_of_first}
+use Rattle.lx_caret.specs.Paragraphs.{Broken, block_cut, block_in, cut_open, draft_left, empty_item, if_empty_item, insert_paragraph_step, moved_on, new_next, next_of_kind, paragraph_at, parted_up, place_of, start_of_first}
 use Rattle.lx_caret.specs.Removing.{remove_text_step}
 use Rattle.lx_caret_laws.proofs.AtCaret.{at_caret}
 use Rattle.lx_caret_laws.proofs.BrokenParts.{among_drop, among_take, kept_take, once_drop, read_ahead, read_more}
@@ -29,7 +29,6 @@ use Rattle.lx_edit_laws.proofs.Reading.{spread}
 use Rattle.lx_edit_laws.proofs.WrapSteps.{was_same}
 use Rattle.lx_edit_laws.proofs.WrapTurns.{WentOver, went_over}
 use Rattle.lx_edit_laws.specs.Reading.{in_place_of}
-use Rattle.lx_forest.proofs.Edits.{is_some-spot}
 use Rattle.lx_forest.proofs.Lookups.{NoRepeats-children_of, has-child, has-parent_of, is_among-children_of, parent_of-self}
 use Rattle.lx_forest.proofs.Walks.{ancestors-step}
 use Rattle.lx_forest.proofs.Within.{is_within-parent, is_within-self, is_within-trans}
@@ -43,10 +42,10 @@ use Rattle.lx_node.specs.declared.kind.Kind.TheVariants as kinds
 use Rattle.lx_node.specs.declared.kind.Kind.{Kind}
 use Rattle.lx_text.proofs.Places.{length-append}
 use Rattle.lx_text.proofs.Told.{front_at, offset_at, rest_at}
-use Rattle.lx_text.specs.Texts.{front_of, rest_of, text_length}
+use Rattle.lx_text.specs.Texts.{text_length}
 use Rattle.lx_trees.proofs.Siblings.{is_some-index_in}
-use Rattle.lx_trees.specs.Siblings.{NoRepeats, index_in, is_among}
-use Rattle.std.proofs.Common.{Bool, Err, List, None, Ok, Option, Result, Some, [], add-one, ap, append_assoc, ap₂, arith, cond, eqb, false, inl, inr, length, not, option_map, refl, subst, suc, sym, true, ℕ, ◌&&◌, ◌++◌, ◌+◌, ◌∙◌, ◌∷◌, ◌≡◌, ◌≢◌, ◌⊎◌}
+use Rattle.lx_trees.specs.Siblings.{index_in, is_among}
+use Rattle.std.proofs.Common.{Bool, Err, List, None, Ok, Option, Result, Some, [], add-one, ap, append_assoc, ap₂, arith, cond, eqb, false, inl, inr, length, not, refl, subst, suc, sym, true, ℕ, ◌&&◌, ◌++◌, ◌+◌, ◌∙◌, ◌∷◌, ◌≡◌, ◌≢◌}
 use Rattle.std.proofs.lemmas.Bool.Decides.{eqb_tells}
 use Rattle.std.proofs.lemmas.Bool.{cases_Bool}
 use Rattle.std.specs.List.{filter}
@@ -194,9 +193,9 @@ module _ (block k at : ℕ) (rest : List ℕ) (w s : Working) (sound : IsSound w
           says = λ q so out. said_label s.forest v.forest q (label_same q so);
           children = λ q so out.
               let off_block : q ≢ block = λ same.
-                  absurd (elim out [ inl a ↦ grind (arith, a, same, own_block) | inr c ↦ grind (arith, c, same, above) ]) in
+              absurd (elim out [ inl a ↦ grind (arith, a, same, own_block) | inr c ↦ grind (arith, c, same, above) ]) in
               let off_pr : q ≢ pr = λ same.
-                  absurd (elim out [ inl a ↦ grind (arith, a, same, above) | inr c ↦ grind (arith, c, same, own_pr) ]) in
+              absurd (elim out [ inl a ↦ grind (arith, a, same, above) | inr c ↦ grind (arith, c, same, own_pr) ]) in
               over.others q off_block (not_new q so) ∙ b.children q off_pr;
         }
 
@@ -245,9 +244,9 @@ module _ (block k at : ℕ) (rest : List ℕ) (w s : Working) (sound : IsSound w
     fresh : has n f ≡ false
     fresh = elim (cases_Bool (has n f)) [
       | inl so ↦ absurd (not_new n (elim (eqb_tells n k) [
-          | inl same ↦ ap (λ m. has m s.forest) same.1 ∙ has-child s.forest k block (o.stay.parents k there ∙ up)
-          | inr other ↦ has_label f s.forest n so (o.stay.labels n so other.1)
-        ]) refl)
+        | inl same ↦ ap (λ m. has m s.forest) same.1 ∙ has-child s.forest k block (o.stay.parents k there ∙ up)
+        | inr other ↦ has_label f s.forest n so (o.stay.labels n so other.1)
+      ]) refl)
       | inr out ↦ out
     ]
 
@@ -380,15 +379,15 @@ unfolding block_cut parted_up
 cut_parted block k at w v sound place up e =
     let p : Point = text_point k at in
     let one = after_tells (cut_open p w) (λ u. after (parted_up (until (Some block) (ancestors u.forest k)) (place_of (index_of u.forest k) at) u)
-        (λ parted. moved_on block (drop parted.index (children_of parted.draft.forest block)) parted.draft)) v e in
+    (λ parted. moved_on block (drop parted.index (children_of parted.draft.forest block)) parted.draft)) v e in
     let s : Working = one.0 in
     let o = cut_tells k at w s sound place one.1.0 in
     let sh : IsForest s.forest = o.1.stay.ready.in_order in
     let up_s : parent_of s.forest k ≡ Some block = o.1.stay.parents k (has-child w.forest k block up) ∙ up in
     let whole : after (parted_up [] (place_of (index_of s.forest k) at) s)
-        (λ parted. moved_on block (drop parted.index (children_of parted.draft.forest block)) parted.draft) ≡ Ok v =
-        ap (λ ks. after (parted_up ks (place_of (index_of s.forest k) at) s)
-        (λ parted. moved_on block (drop parted.index (children_of parted.draft.forest block)) parted.draft)) (sym (not_parted s.forest k block sh up_s)) ∙ one.1.1 in
+    (λ parted. moved_on block (drop parted.index (children_of parted.draft.forest block)) parted.draft) ≡ Ok v =
+    ap (λ ks. after (parted_up ks (place_of (index_of s.forest k) at) s)
+    (λ parted. moved_on block (drop parted.index (children_of parted.draft.forest block)) parted.draft)) (sym (not_parted s.forest k block sh up_s)) ∙ one.1.1 in
     let index_is : index_of s.forest k ≡ index_in (children_of s.forest block) k = ap (λ q. index_in (children_below s.forest q) k) up_s in
     let among : is_among k (children_of s.forest block) ≡ true = grind (arith, is_among-children_of s.forest k block sh, up_s, eqb_tells block block) in
     by_index s o.0 o.1 (index_in (children_of s.forest block) k) refl (is_some-index_in (children_of s.forest block) k ∙ among)
@@ -407,12 +406,12 @@ break_parted block k at format w v is =
     let h : IsForest w.forest = is.sound.ready.in_order in
     let left = left_tells (insert_paragraph_step w) v is.done in
     let one = after_tells (remove_text_step w) (λ u. after (at_anchor (λ p format. paragraph_at (empty_item u) (block_of u.forest p.key) p) u)
-        (λ x. Ok (record { draft = x; item = empty_item u }))) left.0 left.1.0 in
+    (λ x. Ok (record { draft = x; item = empty_item u }))) left.0 left.1.0 in
     let caret = at_caret p format w one.0 is.caret one.1.0 in
     let next : after (at_anchor (λ p format. paragraph_at (empty_item w) (block_of w.forest p.key) p) w)
-        (λ x. Ok (record { draft = x; item = empty_item w })) ≡ Ok left.0 =
-        ap (λ u. after (at_anchor (λ p format. paragraph_at (empty_item u) (block_of u.forest p.key) p) u) (λ x. Ok (record { draft = x; item = empty_item u })))
-        caret.1 ∙ one.1.1 in
+    (λ x. Ok (record { draft = x; item = empty_item w })) ≡ Ok left.0 =
+    ap (λ u. after (at_anchor (λ p format. paragraph_at (empty_item u) (block_of u.forest p.key) p) u) (λ x. Ok (record { draft = x; item = empty_item u })))
+    caret.1 ∙ one.1.1 in
     let two = after_tells (at_anchor (λ p format. paragraph_at (empty_item w) (block_of w.forest p.key) p) w)
     (λ x. Ok (record { draft = x; item = empty_item w })) left.0 next in
     let place = caret.0.anchor in

@@ -10,9 +10,9 @@ use Rattle.lx_draft.specs.Faults.{text_in}
 use Rattle.lx_draft.specs.Selecting.{text_of}
 use Rattle.lx_edit.specs.Edits.{text_point}
 use Rattle.lx_edit_laws.proofs.Reading.{childless_text, spread}
-use Rattle.lx_forest.proofs.Within.{is_within-leaf, is_within-self}
+use Rattle.lx_forest.proofs.Within.{is_within-self}
 use Rattle.lx_forest.specs.Forest.{Forest, Label}
-use Rattle.lx_forest.specs.Lookups.{IsForest, IsHeld, children_of, has, is_within, keys_within, kind_of, label_of, spot}
+use Rattle.lx_forest.specs.Lookups.{IsForest, IsHeld, children_of, has, is_within, keys_within, kind_of, label_of}
 use Rattle.lx_node.specs.Kinds.{is_element, may_hold}
 use Rattle.lx_node.specs.declared.cause.Point.{Point}
 use Rattle.lx_node.specs.declared.fields.TextFields.{TextFields}
@@ -22,7 +22,7 @@ use Rattle.lx_text.proofs.Places.{length-append, offset_is}
 use Rattle.lx_text.proofs.Told.{offset_at, piece-length, piece_of, pieces-whole}
 use Rattle.lx_text.specs.Texts.{front_of, is_offset, rest_of, slice_fault, slice_of, spliced_text, text_length}
 use Rattle.lx_trees.specs.Spots.{Spot, children_at}
-use Rattle.std.proofs.Common.{Bool, List, None, Option, Some, [], ap, append_assoc, arith, cond, eqb, false, inl, inr, option_map, refl, sym, true, ℕ, ◌++◌, ◌+◌, ◌∙◌, ◌∷◌, ◌≡◌, ◌≢◌, ◌≤◌, ◌⊎◌}
+use Rattle.std.proofs.Common.{List, None, Option, Some, [], ap, arith, cond, eqb, false, inl, inr, option_map, refl, sym, true, ℕ, ◌++◌, ◌+◌, ◌∙◌, ◌∷◌, ◌≡◌, ◌≢◌, ◌≤◌, ◌⊎◌}
 use Rattle.std.proofs.lemmas.Bool.Decides.{eqb_tells}
 use Rattle.std.specs.Prelude.{is_some}
 

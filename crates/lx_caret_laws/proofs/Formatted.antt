@@ -2,7 +2,7 @@
 use Rattle.lx_blocks.specs.Blocks.{is_at, passes}
 use Rattle.lx_blocks.specs.Ranges.{end_of, normal_at, range_of, start_of}
 use Rattle.lx_caret.proofs.Cleared.{fit_of, range_lies}
-use Rattle.lx_caret.proofs.Fit.{Fit, Stays, after_tells, stays_ok, stays_self, stays_set, stays_then}
+use Rattle.lx_caret.proofs.Fit.{Fit, Stays, after_tells, stays_self, stays_set, stays_then}
 use Rattle.lx_caret.proofs.Lies.{text_at}
 use Rattle.lx_caret.proofs.Splits.{stays_split}
 use Rattle.lx_caret.specs.Formatting.{Isolated, and_before, edges, format_at, format_text_step, formatted, has_bit, isolate_step, isolated, isolated_key, pieces, selection_format, switch_step, switched, switched_all, switched_in}
@@ -13,7 +13,6 @@ use Rattle.lx_caret_laws.proofs.SplitSaid.{split_read}
 use Rattle.lx_caret_laws.specs.Carets.{IsSound}
 use Rattle.lx_caret_laws.specs.Reading.{ReadsTheSame, read_in, said}
 use Rattle.lx_draft.proofs.Covered.{answered}
-use Rattle.lx_draft.proofs.Touched.{is_some-kind_of}
 use Rattle.lx_draft.specs.Faults.{after, over_limits}
 use Rattle.lx_draft.specs.Selecting.{text_of}
 use Rattle.lx_draft.specs.Steps.{fields_written, set_points, set_step}
@@ -24,7 +23,7 @@ use Rattle.lx_edit_laws.proofs.WrapSteps.{was_same}
 use Rattle.lx_forest.proofs.Lookups.{children_of-with_fields, fields_of-with_fields}
 use Rattle.lx_forest.specs.Edits.{with_fields}
 use Rattle.lx_forest.specs.Forest.{Forest}
-use Rattle.lx_forest.specs.Lookups.{IsForest, fields_of, has, kind_of}
+use Rattle.lx_forest.specs.Lookups.{IsForest, fields_of, kind_of}
 use Rattle.lx_links.specs.Faults.{set_fault}
 use Rattle.lx_node.specs.Kinds.{is_element}
 use Rattle.lx_node.specs.Strings.{characters_of}
@@ -34,7 +33,7 @@ use Rattle.lx_node.specs.declared.fields.Fields.{Fields}
 use Rattle.lx_node.specs.declared.fields.TextFields.{TextFields}
 use Rattle.lx_node.specs.declared.kind.Kind.TheVariants as kinds
 use Rattle.lx_node.specs.declared.kind.Kind.{Kind}
-use Rattle.std.proofs.Common.{Bool, List, None, Ok, Option, Result, Some, [], ap, arith, cond, eqb, false, inl, inr, not, option_map, refl, subst, sym, true, ℕ, ◌∙◌, ◌∷◌, ◌≡◌, ◌≢◌}
+use Rattle.std.proofs.Common.{Bool, List, None, Ok, Option, Result, Some, [], ap, cond, false, inl, inr, not, option_map, refl, subst, sym, true, ℕ, ◌∙◌, ◌∷◌, ◌≡◌}
 use Rattle.std.proofs.lemmas.Bool.Decides.{eqb_tells}
 use Rattle.std.specs.Option.{option_or}
 use Rattle.std.specs.Prelude.{is_some}

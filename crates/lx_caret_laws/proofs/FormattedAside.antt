@@ -8,7 +8,7 @@ use Rattle.lx_caret.proofs.Cleared.{fit_of, range_lies}
 use Rattle.lx_caret.proofs.Fit.{Fit, after_tells}
 use Rattle.lx_caret.proofs.Lies.{both}
 use Rattle.lx_caret.specs.Formatting.{Isolated, and_before, edges, end_piece, format_at, format_text_step, formatted, has_bit, isolate_step, isolated, isolated_key, pieces, selection_format, start_piece, switch_step, switched, switched_all, switched_in, whole, piece}
-use Rattle.lx_caret_laws.proofs.Formatted.{format_unread, isolate_unread, switch_unread}
+use Rattle.lx_caret_laws.proofs.Formatted.{format_unread, isolate_unread}
 use Rattle.lx_caret_laws.proofs.Spliced.{label_other, text_of_normal}
 use Rattle.lx_caret_laws.proofs.SplitSaid.{split_stays}
 use Rattle.lx_caret_laws.specs.Carets.{IsSound}
@@ -22,11 +22,10 @@ use Rattle.lx_draft.specs.Steps.{fields_written, set_points, set_step}
 use Rattle.lx_draft.specs.Working.{Working}
 use Rattle.lx_edit.specs.InTurn.{in_turn}
 use Rattle.lx_edit.specs.Texts.{split_step}
-use Rattle.lx_edit_laws.proofs.SplitPieces.{AllStay}
 use Rattle.lx_edit_laws.proofs.WrapSteps.{was_same}
 use Rattle.lx_forest.proofs.Lookups.{children_of-with_fields}
 use Rattle.lx_forest.specs.Edits.{with_fields}
-use Rattle.lx_forest.specs.Forest.{Forest, Label}
+use Rattle.lx_forest.specs.Forest.{Forest}
 use Rattle.lx_forest.specs.Lookups.{children_of, fields_of, has, is_attached, kind_of, label_of, parent_of}
 use Rattle.lx_links.specs.Faults.{set_fault}
 use Rattle.lx_node.specs.Kinds.{has_characters}
@@ -41,7 +40,7 @@ use Rattle.lx_node.specs.declared.fields.TextFields.{TextFields}
 use Rattle.lx_node.specs.declared.kind.Kind.{Kind}
 use Rattle.lx_trees.specs.Siblings.{is_among}
 use Rattle.lx_trees.proofs.Siblings.{is_among-append}
-use Rattle.std.proofs.Common.{Bool, List, None, Ok, Option, Result, Some, [], ap, arith, cond, eqb, false, inl, inr, map, not, option_map, refl, subst, sym, true, ℕ, ◌&&◌, ◌++◌, ◌∙◌, ◌∷◌, ◌≡◌, ◌≢◌, ◌||◌, ◌⊎◌}
+use Rattle.std.proofs.Common.{Bool, List, None, Ok, Option, Result, Some, [], ap, arith, cond, eqb, false, inl, inr, map, not, refl, subst, sym, true, ℕ, ◌&&◌, ◌++◌, ◌∙◌, ◌∷◌, ◌≡◌, ◌≢◌, ◌||◌, ◌⊎◌}
 use Rattle.std.proofs.lemmas.Bool.Decides.{eqb_tells}
 use Rattle.std.specs.Option.{option_or}
 use Rattle.std.specs.Prelude.{filter, is_some, nat_lt}
@@ -67,7 +66,7 @@ isolated_so p w v fit e = by_text (normal_at w.forest p.key) refl e where
   by_text : (o : Option TextFields) → normal_at w.forest p.key ≡ o → cond (is_some o) (split_step p.key (edges w.forest p) w) (Ok w) ≡ Ok v
       → IsolatedSo p.key w v
   by_text None is e = subst (IsolatedSo p.key w) (was_same w v e)
-      (record { still = λ q so other above. record { label = refl; children = refl }; parents = λ q so. refl})
+      (record { still = λ q so other above. record { label = refl; children = refl }; parents = λ q so. refl })
   by_text (Some t) is e =
       let stay = (split_stays p.key (edges w.forest p) t w v fit.ready fit.short (text_of_normal w.forest p.key t is) e).1 in
       record {

@@ -304,9 +304,9 @@ unfolding delete_character_step delete_word_step
 told-deleting = record {
   removed = λ k from to format t w v is e. cut_gone k from to format t w v is (removed_cut k from to format t w v is e);
   selection_deleted = λ back k from to format t w v is e. elim e [
-      | inl character ↦ deleted_gone back (cluster_reach back) k from to format t w v is character
-      | inr word ↦ deleted_gone back (word_reach back) k from to format t w v is word
-    ];
+    | inl character ↦ deleted_gone back (cluster_reach back) k from to format t w v is character
+    | inr word ↦ deleted_gone back (word_reach back) k from to format t w v is word
+  ];
   character_back = λ k at format t w v is some e. gone_before (cluster_reach true) k at format t w v is some e;
   character_on = λ k at format t w v is some e. gone_after (cluster_reach false) k at format t w v is some e;
   word_back = λ k at format t w v is some e. gone_before (word_reach true) k at format t w v is some e;

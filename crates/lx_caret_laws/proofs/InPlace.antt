@@ -7,18 +7,17 @@ use Rattle.lx_edit_laws.proofs.Reading.{below, below-level, down, spread}
 use Rattle.lx_edit_laws.proofs.ReadingPlaces.{in_place_of-self}
 use Rattle.lx_edit_laws.specs.Reading.{in_place_of}
 use Rattle.lx_forest.proofs.Lookups.{NoRepeats-children_of, has-child, has-parent_of, is_among-children_of}
-use Rattle.lx_forest.proofs.Tops.{IsBelow, is_within-child}
+use Rattle.lx_forest.proofs.Tops.{is_within-child}
 use Rattle.lx_forest.proofs.Within.{is_within-apart, is_within-parent, is_within-self, is_within-trans, is_within-up}
-use Rattle.lx_forest.specs.Forest.{Forest, Label}
+use Rattle.lx_forest.specs.Forest.{Forest}
 use Rattle.lx_forest.specs.Lookups.{IsForest, alone, children_of, has, is_within, key_of, keys_within, parent_of}
 use Rattle.lx_node.specs.declared.cause.Point.{Point}
 use Rattle.lx_text.proofs.Places.{length-append, length-none}
 use Rattle.lx_text.proofs.Told.{front_at, offset_at, rest_at}
 use Rattle.lx_text.specs.Texts.{front_of, is_offset, rest_of, spliced_text, text_length}
 use Rattle.lx_trees.proofs.NamedTrees.{is_among-preorder}
-use Rattle.lx_trees.proofs.Siblings.{is_among-append}
 use Rattle.lx_trees.specs.Siblings.{NoRepeats, is_among}
-use Rattle.std.proofs.Common.{Bool, List, None, Some, [], ap, append-nil, append_assoc, ap₂, arith, cond, eqb, false, inl, inr, not, refl, subst, sym, true, ℕ, ◌&&◌, ◌++◌, ◌+◌, ◌||◌, ◌∙◌, ◌∷◌, ◌≡◌, ◌≢◌, ◌≤◌, ◌⊎◌}
+use Rattle.std.proofs.Common.{Bool, List, Some, [], ap, append-nil, append_assoc, ap₂, arith, cond, eqb, false, inl, inr, not, refl, subst, sym, true, ℕ, ◌++◌, ◌+◌, ◌||◌, ◌∙◌, ◌∷◌, ◌≡◌, ◌≢◌, ◌⊎◌}
 use Rattle.std.proofs.lemmas.Bool.Decides.{eqb_tells}
 use Rattle.std.proofs.lemmas.Bool.{cases_Bool, or_parts}
 
@@ -203,10 +202,10 @@ module _ (f g : Forest) (base m : ℕ) (o : OnlyAt f g base m) where
           let second : is_within f x q.key ≡ true = ap₂ (λ y z. is_within f y z) own.1 q_on ∙ holds in
           let rest : reads_in g xs ≡ reads_in f xs =
           reads-same f g xs (λ y at.
-              let up_y : parent_of f y ≡ Some b = up y (grind (arith, at)) in
-              let up_c : parent_of f c ≡ Some b = up c (grind (arith, own, eqb_tells x c)) in
-              read_elsewhere y (has-child f y b up_y)
-              (apart_children f y c b m o.ordered up_y up_c (λ e. absurd (grind (arith, e, own, at, once.0))) holds)) in
+          let up_y : parent_of f y ≡ Some b = up y (grind (arith, at)) in
+          let up_c : parent_of f c ≡ Some b = up c (grind (arith, own, eqb_tells x c)) in
+          read_elsewhere y (has-child f y b up_y)
+          (apart_children f y c b m o.ordered up_y up_c (λ e. absurd (grind (arith, e, own, at, once.0))) holds)) in
           let here : IsIn (place_in f x p) (place_in f x q) new (read_in f x) (reads_in g ks) =
           subst (λ y. IsIn (place_in f y p) (place_in f y q) new (read_in f y) (reads_in g ks)) (sym own.1) inside in
           let more = wrapped (place_in f x p) (place_in f x q) new (read_in f x) (reads_in g ks) [] (reads_in f xs) here in

@@ -15,7 +15,7 @@ use Rattle.lx_draft.specs.Faults.{text_in}
 use Rattle.lx_draft.specs.Selecting.{is_counted_in, is_place, length_of, length_told, lies_in, text_of}
 use Rattle.lx_draft.specs.Working.{Working}
 use Rattle.lx_edit.specs.Edits.{text_point}
-use Rattle.lx_edit.specs.Texts.{keys_from, split_step, text_or_none}
+use Rattle.lx_edit.specs.Texts.{split_step, text_or_none}
 use Rattle.lx_edit_laws.proofs.SplitLaws.{IsLeft, cut_up, left, no_offset}
 use Rattle.lx_edit_laws.proofs.SplitPieces.{AllStay, stay_self}
 use Rattle.lx_edit_laws.proofs.WrapSteps.{was_same}
@@ -25,8 +25,7 @@ use Rattle.lx_edit_laws.specs.Splits.{IsSplit}
 use Rattle.lx_forest.specs.Forest.{Forest}
 use Rattle.lx_forest.specs.Lookups.{fields_of, is_attached, kind_of, label_of}
 use Rattle.lx_caret.proofs.Short.{u32-tells}
-use Rattle.lx_node.specs.Limits.{last_u32, most_characters}
-use Rattle.lx_node.specs.declared.cause.Point.{Point}
+use Rattle.lx_node.specs.Limits.{last_u32}
 use Rattle.lx_node.specs.declared.cause.PointKind.TheVariants as point
 use Rattle.lx_node.specs.declared.fields.Fields.TheVariants as fields
 use Rattle.lx_node.specs.declared.fields.Fields.{Fields}
@@ -35,10 +34,9 @@ use Rattle.lx_text.proofs.Places.{offset_is}
 use Rattle.lx_text.proofs.Told.{slice-front, told-all, told-none}
 use Rattle.lx_text.specs.Texts.{front_of, is_offset, slice_of, text_length}
 use Rattle.lx_trees.specs.Siblings.{is_among}
-use Rattle.std.proofs.Common.{Bool, List, None, Ok, Option, Some, [], ap, ap₂, append-nil, arith, cond, eqb, false, refl, subst, sym, true, ℕ, ◌&&◌, ◌*◌, ◌+◌, ◌++◌, ◌∙◌, ◌∷◌, ◌≡◌, ◌≢◌, ◌≤◌}
+use Rattle.std.proofs.Common.{Bool, List, None, Ok, Option, Some, [], ap, ap₂, append-nil, arith, cond, false, refl, subst, sym, true, ℕ, ◌&&◌, ◌++◌, ◌∙◌, ◌∷◌, ◌≡◌, ◌≢◌, ◌≤◌}
 use Rattle.std.proofs.lemmas.Bool.Decides.{eqb_tells, nat_tests}
-use Rattle.std.proofs.lemmas.Bool.{cases_Bool}
-use Rattle.std.specs.Prelude.{is_some, nat_le, nat_lt}
+use Rattle.std.specs.Prelude.{is_some, nat_le}
 
 -- ---- lengths
 

@@ -21,7 +21,7 @@ use Rattle.lx_node.specs.declared.kind.Kind.{Kind}
 use Rattle.lx_trees.proofs.Positions.{slice_get-index_in}
 use Rattle.lx_trees.proofs.Siblings.{is_some-index_in}
 use Rattle.lx_trees.specs.Siblings.{index_in, is_among, names_with}
-use Rattle.std.proofs.Common.{Bool, List, None, Ok, Option, Some, [], ap, append_assoc, arith, cond, eqb, false, inl, inr, refl, subst, sym, true, ℕ, ◌++◌, ◌+◌, ◌∙◌, ◌∷◌, ◌≡◌, ◌≢◌}
+use Rattle.std.proofs.Common.{List, Ok, Option, Some, [], ap, append_assoc, arith, cond, eqb, false, inl, inr, refl, subst, sym, true, ℕ, ◌++◌, ◌+◌, ◌∙◌, ◌∷◌, ◌≡◌, ◌≢◌}
 use Rattle.std.proofs.lemmas.Bool.Decides.{eqb_tells}
 use Rattle.std.specs.Prelude.{is_some, slice_get}
 

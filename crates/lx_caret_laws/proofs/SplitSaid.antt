@@ -3,11 +3,11 @@ use Rattle.lx_caret.proofs.Lies.{text_at}
 use Rattle.lx_caret.proofs.Short.{u32-tells, written-allowed}
 use Rattle.lx_caret.specs.Lying.{TextsAreShort}
 use Rattle.lx_caret_laws.proofs.ReadLevels.{read-leaf, reads-in_place, reads_by, reads_known}
-use Rattle.lx_caret_laws.specs.Reading.{read_in, reads_in, said, said_by}
+use Rattle.lx_caret_laws.specs.Reading.{read_in, reads_in, said}
 use Rattle.lx_draft.proofs.Covered.{answered}
 use Rattle.lx_draft.proofs.Gaps.{parent_here}
 use Rattle.lx_draft.specs.Covering.{IsReady}
-use Rattle.lx_draft.specs.Faults.{after, over_limits, splice_fault, text_fields, text_in}
+use Rattle.lx_draft.specs.Faults.{after, over_limits, splice_fault, text_in}
 use Rattle.lx_draft.specs.Selecting.{text_of}
 use Rattle.lx_draft.specs.Steps.{made, new_step, splice_step, text_replaced}
 use Rattle.lx_draft.specs.Beside.{put_behind_step}
@@ -17,7 +17,7 @@ use Rattle.lx_edit.specs.Conditions.{length_at}
 use Rattle.lx_edit.specs.Edits.{pointed}
 use Rattle.lx_edit.specs.Texts.{cut_at, cut_in_two, keys_from, split_step, tail_made, tail_of, text_or_none}
 use Rattle.lx_edit_laws.proofs.Reading.{childless_text}
-use Rattle.lx_edit_laws.proofs.SplitLaws.{IsCutUp, IsLeft, cut_up, left}
+use Rattle.lx_edit_laws.proofs.SplitLaws.{IsLeft, cut_up, left}
 use Rattle.lx_edit_laws.proofs.SplitPieces.{AllStay, stay_self}
 use Rattle.lx_edit_laws.proofs.WrapSteps.{was_allowed, was_same}
 use Rattle.lx_edit_laws.specs.Reading.{in_place_of, texts_of}
@@ -25,7 +25,7 @@ use Rattle.lx_edit_laws.specs.Reading as told
 use Rattle.lx_edit_laws.specs.Splits.{IsSplit}
 use Rattle.lx_forest.proofs.Lookups.{NoRepeats-children_of, has-child}
 use Rattle.lx_forest.specs.Forest.{Forest, Label}
-use Rattle.lx_forest.specs.Lookups.{IsForest, IsHeld, children_of, has, kind_of, label_of, parent_of}
+use Rattle.lx_forest.specs.Lookups.{IsForest, IsHeld, children_of, has, label_of, parent_of}
 use Rattle.lx_node.specs.Kinds.{may_hold}
 use Rattle.lx_node.specs.Limits.{last_u32, most_characters, most_written}
 use Rattle.lx_node.specs.Strings.{characters_of}
@@ -36,7 +36,7 @@ use Rattle.lx_select.specs.Rules.{split_moves}
 use Rattle.lx_text.specs.Texts.{text_length}
 use Rattle.lx_trees.proofs.Siblings.{is_named_tells}
 use Rattle.lx_trees.specs.Siblings.{is_among}
-use Rattle.std.proofs.Common.{Bool, List, None, Ok, Option, Some, [], ap, ap₂, arith, eqb, false, inl, inr, length, not, option_map, refl, subst, sym, true, ℕ, ◌*◌, ◌+◌, ◌++◌, ◌-◌, ◌||◌, ◌∙◌, ◌∷◌, ◌≡◌, ◌≢◌, ◌≤◌}
+use Rattle.std.proofs.Common.{Bool, List, Ok, Some, [], ap, ap₂, arith, eqb, inl, inr, length, not, option_map, refl, subst, sym, true, ℕ, ◌*◌, ◌+◌, ◌++◌, ◌-◌, ◌||◌, ◌∙◌, ◌∷◌, ◌≡◌, ◌≢◌, ◌≤◌}
 use Rattle.std.proofs.lemmas.Bool.Decides.{eqb_tells}
 use Rattle.std.proofs.lemmas.Bool.{or_parts}
 

@@ -2,7 +2,6 @@
 use Rattle.lx_blocks.specs.Ranges.{at_anchor, at_anchor_of, caret_at, lies, normal_at}
 use Rattle.lx_caret.proofs.Fit.{after_tells}
 use Rattle.lx_caret.proofs.Lies.{both, text_at}
-use Rattle.lx_caret.proofs.Parents.{characters_no_element}
 use Rattle.lx_caret.specs.Adding.{add_step, is_inside, newest}
 use Rattle.lx_caret.specs.Inserting.{broken, insert_line_break_step, insert_tab_step, place_behind, tab_fields, tabbed, insert_text_step, is_of_format, style_in, typed, typed_into, typed_new}
 use Rattle.lx_caret.specs.Removing.{remove_text_step}
@@ -14,13 +13,13 @@ use Rattle.lx_caret_laws.proofs.TypedOver.{typed_over}
 use Rattle.lx_caret_laws.specs.Carets.{IsSound}
 use Rattle.lx_caret_laws.specs.Reading.{ReadsBetween}
 use Rattle.lx_caret_laws.specs.Typing.{IsCaretAt, IsTyped, TypingIsRead}
-use Rattle.lx_draft.specs.Faults.{after, text_in}
+use Rattle.lx_draft.specs.Faults.{after}
 use Rattle.lx_draft.specs.Selecting.{is_counted_in, is_place, length_told, lies_in, text_of}
 use Rattle.lx_draft.specs.Working.{Working}
 use Rattle.lx_edit.specs.Edits.{element_point, text_point}
 use Rattle.lx_edit.specs.Texts.{has_no_text}
 use Rattle.lx_edit_laws.proofs.WrapSteps.{was_same}
-use Rattle.lx_forest.specs.Lookups.{is_attached, kind_of, label_of}
+use Rattle.lx_forest.specs.Lookups.{is_attached, kind_of}
 use Rattle.lx_node.specs.Kinds.{is_element}
 use Rattle.lx_node.specs.declared.cause.Point.{Point}
 use Rattle.lx_node.specs.declared.cause.PointKind.TheVariants as point
@@ -34,7 +33,7 @@ use Rattle.lx_node.specs.declared.fields.TextFields.{TextFields}
 use Rattle.lx_node.specs.declared.kind.Kind.TheVariants as kinds
 use Rattle.lx_select.specs.declared.selection.Selection.TheVariants.{Range}
 use Rattle.lx_text.proofs.Places.{offset_is, parts}
-use Rattle.std.proofs.Common.{Bool, List, None, Ok, Option, Result, Some, [], ap, arith, cond, eqb, false, inl, inr, refl, subst, sym, true, ℕ, ◌∙◌, ◌∷◌, ◌≡◌, ◌≢◌}
+use Rattle.std.proofs.Common.{Bool, List, None, Ok, Option, Result, Some, [], ap, arith, cond, false, refl, subst, sym, true, ℕ, ◌∙◌, ◌∷◌, ◌≡◌, ◌≢◌}
 use Rattle.std.proofs.lemmas.Bool.Decides.{eqb_tells}
 use Rattle.std.specs.Prelude.{is_some}
 

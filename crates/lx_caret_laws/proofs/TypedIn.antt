@@ -24,7 +24,7 @@ use Rattle.lx_node.specs.declared.fields.TextFields.{TextFields}
 use Rattle.lx_select.specs.Rules.{offset_sum}
 use Rattle.lx_select.specs.Selection.{each_point}
 use Rattle.lx_select.specs.declared.selection.Selection.TheVariants.{Range}
-use Rattle.lx_text.proofs.Places.{length-none, offset_is, parts}
+use Rattle.lx_text.proofs.Places.{length-none, parts}
 use Rattle.lx_text.proofs.Told.{offset_within, piece_of, splice-length, told-all}
 use Rattle.lx_text.specs.Texts.{front_of, is_offset, rest_of, slice_fault, spliced_text, text_length}
 use Rattle.std.proofs.Common.{List, None, Ok, Some, [], ap, append-nil, arith, cond, subst, sym, true, ℕ, ◌++◌, ◌+◌, ◌∙◌, ◌∷◌, ◌≡◌, ◌≤◌}

@@ -6,22 +6,21 @@ use Rattle.lx_caret.proofs.Lies.{both}
 use Rattle.lx_caret.proofs.Parents.{characters_no_element, no_children}
 use Rattle.lx_caret.specs.Adding.{add_step, is_inside, kind_around, no_room, opened, put_by}
 use Rattle.lx_caret_laws.proofs.EditedIn.{Around, around_it, place_leaf, there_by}
-use Rattle.lx_caret_laws.proofs.InPlace.{IsIn, OnlyAt, below_parent, keys-level, of_equals, read_above, read_elsewhere, read_level}
+use Rattle.lx_caret_laws.proofs.InPlace.{IsIn, OnlyAt, below_parent, keys-level, read_above, read_elsewhere, read_level}
 use Rattle.lx_caret_laws.proofs.Opened.{IsOpened, opened_tells}
 use Rattle.lx_caret_laws.proofs.Placed.{IsBeside, IsPlaced, in_place_of-again, label_new, put_after, put_ahead, put_placed}
 use Rattle.lx_caret_laws.proofs.ReadLevels.{read-leaf, read-level, reads-same}
 use Rattle.lx_caret_laws.specs.Carets.{IsSound}
-use Rattle.lx_caret_laws.specs.Reading.{ReadsBetween, place_along, place_in, place_on, read_in, reads_in, said, said_by}
+use Rattle.lx_caret_laws.specs.Reading.{ReadsBetween, place_along, place_in, read_in, reads_in, said, said_by}
 use Rattle.lx_draft.proofs.Gaps.{parent_here}
 use Rattle.lx_draft.proofs.Touched.{is_some-kind_of}
 use Rattle.lx_draft.specs.Beside.{put_before_step, put_behind_step}
 use Rattle.lx_draft.specs.Faults.{after, answer}
 use Rattle.lx_draft.specs.Selecting.{is_counted_in, is_place, lies_in, text_of}
-use Rattle.lx_draft.specs.Steps.{new_step, put_step}
+use Rattle.lx_draft.specs.Steps.{new_step}
 use Rattle.lx_draft.specs.Working.{Working}
 use Rattle.lx_edit.specs.Edits.{element_point, text_point}
 use Rattle.lx_edit_laws.proofs.Reading.{spread}
-use Rattle.lx_edit_laws.proofs.WrapSteps.{was_same}
 use Rattle.lx_edit_laws.specs.Reading.{in_place_of}
 use Rattle.lx_forest.proofs.Lookups.{NoRepeats-children_of, has-child, has-parent_of, is_among-children_of, parent_of-self}
 use Rattle.lx_forest.proofs.Within.{is_within-parent, is_within-self, is_within-up}
@@ -31,18 +30,15 @@ use Rattle.lx_node.specs.Kinds.{is_element}
 use Rattle.lx_node.specs.declared.cause.Cause.{Cause}
 use Rattle.lx_node.specs.declared.cause.Point.{Point}
 use Rattle.lx_node.specs.declared.cause.PointKind.TheVariants as point
-use Rattle.lx_node.specs.declared.fields.Fields.TheVariants as fields
 use Rattle.lx_node.specs.declared.fields.Fields.{Fields}
-use Rattle.lx_node.specs.declared.fields.TextFields.{TextFields}
-use Rattle.lx_node.specs.declared.kind.Kind.TheVariants as kinds
 use Rattle.lx_node.specs.declared.kind.Kind.{Kind}
 use Rattle.lx_text.proofs.Places.{length-none}
 use Rattle.lx_text.specs.Texts.{text_length}
 use Rattle.lx_trees.proofs.Positions.{names_with-insert}
-use Rattle.lx_trees.specs.Siblings.{is_among, names_with}
-use Rattle.std.proofs.Common.{Bool, List, None, Ok, Option, Result, Some, [], ap, append-nil, append_assoc, ap₂, arith, cond, eqb, false, inl, inr, length, option_map, refl, subst, suc, sym, true, zero, ℕ, ◌++◌, ◌+◌, ◌∙◌, ◌∷◌, ◌≡◌, ◌≢◌, ◌≤◌, ◌⊎◌, ◌||◌}
+use Rattle.lx_trees.specs.Siblings.{is_among}
+use Rattle.std.proofs.Common.{Bool, List, None, Ok, Option, Some, [], ap, append-nil, append_assoc, ap₂, arith, cond, eqb, false, inl, inr, length, option_map, refl, suc, sym, true, zero, ℕ, ◌++◌, ◌+◌, ◌∙◌, ◌∷◌, ◌≡◌, ◌≢◌, ◌≤◌, ◌||◌}
 use Rattle.std.proofs.lemmas.Bool.Decides.{eqb_tells, nat_tests}
-use Rattle.std.specs.Prelude.{drop, insert, is_some, nat_le, slice_get, take}
+use Rattle.std.specs.Prelude.{drop, insert, is_some, slice_get, take}
 
 -- ---- labels
 
@@ -141,7 +137,7 @@ module _ (typed : List ℕ) (k at : ℕ) (kind : Kind) (x : Fields) (w s v : Wor
       let below : is_among q (children_of s.forest pr) ≡ true = ap (is_among q) (o.stay.order pr up) ∙ among_placed k q (k ∷ rest) (children_of w.forest pr) there_k among in
       let so : has q s.forest ≡ true = has-child s.forest q pr (parent_here s.forest pr q o.stay.ready.in_order below) in
       let other : q ≢ pr = λ e.
-          let none : is_among q [] ≡ true = sym (ap (is_among q) (ap (children_of s.forest) (sym e) ∙ bare)) ∙ below in absurd (cc) in
+      let none : is_among q [] ≡ true = sym (ap (is_among q) (ap (children_of s.forest) (sym e) ∙ bare)) ∙ below in absurd (cc) in
       read-leaf v.forest q b.ordered (b.children q other ∙ bare) ∙ said_label s.forest v.forest q (b.labels q so)
 
   pieces_read : (qs : List ℕ) → ((q : ℕ) → is_among q qs ≡ true → is_among q (k ∷ rest) ≡ true) → reads_in v.forest qs ≡ said_by s.forest qs
@@ -205,17 +201,17 @@ module _ (typed : List ℕ) (k at : ℕ) (kind : Kind) (x : Fields) (w s v : Wor
       let level = read_level f g pr k only_at p p typed refl refl pr k (ks ++ rest) up (is_within-self f k ∙ there) says order inside in
       let all : (b : ℕ) → is_at is_element f b ≡ true → is_within f b k ≡ true → Around (place_in f b p) (place_in f b p) typed (read_in f b) (read_in g b) =
       λ b element over.
-          let other : k ≢ b = λ e. let bad : false ≡ true = sym (ap (is_at is_element f) (sym e) ∙ no_element) ∙ element in absurd (cc) in
-          around_it _ _ typed _ _ (read_above f g pr k only_at p p typed refl refl level b (sym (is_within-up f b k pr h up other) ∙ over)) in
+      let other : k ≢ b = λ e. let bad : false ≡ true = sym (ap (is_at is_element f) (sym e) ∙ no_element) ∙ element in absurd (cc) in
+      around_it _ _ typed _ _ (read_above f g pr k only_at p p typed refl refl level b (sym (is_within-up f b k pr h up other) ∙ over)) in
       record {
         places = λ b element first second. let a = all b element first in (a.first, a.second, a.order);
         around = λ b element first second. (all b element first).is;
         elsewhere = λ b element first second. read_elsewhere f g pr k only_at b (there_by f b element) first;
         aside = record {
           each = λ q so first second. (
-              label_still q so (λ same. absurd (grind (arith, first, same, is_within-self f k, there))),
-              children_there q so (λ same. absurd (grind (arith, first, same, above))),
-            );
+            label_still q so (λ same. absurd (grind (arith, first, same, is_within-self f k, there))),
+            children_there q so (λ same. absurd (grind (arith, first, same, above))),
+          );
         };
       }
 

@@ -1,6 +1,6 @@
 -- Typing over what is selected in a text: it is removed, and then one types at the caret.
 use Rattle.lx_blocks.specs.Blocks.{frame_of, same_node}
-use Rattle.lx_blocks.specs.Ranges.{at_anchor, caret_at, end_of, if_normal, is_collapsed, is_fit, lies, normal_at, range_in, range_of, start_of}
+use Rattle.lx_blocks.specs.Ranges.{at_anchor, caret_at, end_of, if_normal, is_fit, lies, normal_at, range_in, range_of, start_of}
 use Rattle.lx_blocks.specs.declared.ranges.Ranged.{Ranged}
 use Rattle.lx_caret.proofs.Cleared.{remove_text_fits}
 use Rattle.lx_caret.proofs.Fit.{Fit, after_tells}
@@ -13,7 +13,7 @@ use Rattle.lx_caret_laws.proofs.EditedIn.{edited_around}
 use Rattle.lx_caret_laws.proofs.Gone.{caret_sound, cut_gone, removed_cut}
 use Rattle.lx_caret_laws.proofs.Spliced.{text_of_normal, was_spliced}
 use Rattle.lx_caret_laws.proofs.TypedIn.{is_read}
-use Rattle.lx_caret_laws.specs.Carets.{HasCaret, IsSound, OnlyReads}
+use Rattle.lx_caret_laws.specs.Carets.{OnlyReads}
 use Rattle.lx_caret_laws.specs.Deleting.{IsGone, IsSelectedIn}
 use Rattle.lx_caret_laws.specs.Typing.{IsTyped, IsTypedOver}
 use Rattle.lx_draft.proofs.Covered.{answered}
@@ -35,8 +35,8 @@ use Rattle.lx_node.specs.declared.fields.Fields.{Fields}
 use Rattle.lx_node.specs.declared.fields.TextFields.{TextFields}
 use Rattle.lx_select.specs.declared.selection.Selection.TheVariants.{Range}
 use Rattle.lx_text.proofs.Told.{front_at, rest_at}
-use Rattle.lx_text.specs.Texts.{front_of, rest_of, text_length}
-use Rattle.std.proofs.Common.{Bool, Err, List, None, Ok, Option, Result, Some, [], ap, ap₂, arith, cond, eqb, false, length, refl, subst, sym, true, ℕ, ◌&&◌, ◌++◌, ◌+◌, ◌∙◌, ◌∷◌, ◌≡◌, ◌≢◌, ◌≤◌}
+use Rattle.lx_text.specs.Texts.{front_of, rest_of}
+use Rattle.std.proofs.Common.{Bool, Err, List, None, Ok, Option, Result, Some, [], ap, ap₂, arith, cond, false, length, refl, subst, sym, true, ℕ, ◌&&◌, ◌++◌, ◌+◌, ◌∙◌, ◌≡◌, ◌≤◌}
 use Rattle.std.proofs.lemmas.Bool.Decides.{eqb_tells}
 use Rattle.std.specs.Option.{option_or}
 
