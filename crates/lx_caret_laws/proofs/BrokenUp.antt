@@ -123,14 +123,16 @@ module _ (block k at : ℕ) (rest : List ℕ) (w s : Working) (sound : IsSound w
 
   -- how much is read before the place
   ahead : (i : ℕ) → index_in (children_of s.forest block) k ≡ Some i
-      → text_length (reads_in s.forest (take (place_of (Some i) at) (children_of s.forest block))) ≡ place_along f p (spread (keys_within f) (children_of f block))
+      → text_length (reads_in s.forest (take (place_of (Some i) at) (children_of s.forest block))) ≡ place_along f p
+      (spread (keys_within f) (children_of f block))
   ahead i is =
       let xs : List ℕ = children_of f block in
       let ys : List ℕ = children_of s.forest block in
       let here = place_leaf f k at h there leaf in
       let first : text_length (reads_in s.forest (take i ys)) + at ≡ place_along f p (spread (keys_within f) xs) =
       subst (λ zs. text_length (reads_in s.forest (take i zs)) + at ≡ place_along f p (spread (keys_within f) xs)) (sym order)
-      (read_ahead f s.forest p k at rest refl own here xs i (NoRepeats-children_of f block h) among_k each_child (ap (λ zs. index_in zs k) (sym order) ∙ is)) in
+      (read_ahead f s.forest p k at rest refl own here xs i (NoRepeats-children_of f block h) among_k each_child
+      (ap (λ zs. index_in zs k) (sym order) ∙ is)) in
       elim (eqb_tells at 0) [
         | inl start ↦
             let spot : place_of (Some i) at ≡ i = ap (λ t. cond t i (i + 1)) start.0 in
@@ -147,7 +149,8 @@ module _ (block k at : ℕ) (rest : List ℕ) (w s : Working) (sound : IsSound w
 
   -- ---- once the new block has what comes after the place
 
-  module _ (n : ℕ) (i : ℕ) (kind : Kind) (x : Fields) (put v : Working) (is : index_in (children_of s.forest block) k ≡ Some i) (n_is : n ≡ s.next_key)
+  module _ (n : ℕ) (i : ℕ) (kind : Kind) (x : Fields) (put v : Working) (is : index_in (children_of s.forest block) k ≡ Some i)
+      (n_is : n ≡ s.next_key)
       (b : IsBeside s.forest put.forest block n (block ∷ n ∷ []) (label_new s kind x))
       (over : WentOver put.forest v.forest block n (drop (place_of (Some i) at) (children_of s.forest block))) where
     abbrev pr : ℕ
@@ -235,7 +238,8 @@ module _ (block k at : ℕ) (rest : List ℕ) (w s : Working) (sound : IsSound w
     front_read =
         read-level v.forest block over.in_order
         ∙ ap₂ (λ a t. a ++ t)
-        (said_label s.forest v.forest block (label_same block block_still) ∙ said_label f s.forest block (o.stay.labels block block_there (λ e. apart (sym e))))
+        (said_label s.forest v.forest block (label_same block block_still)
+        ∙ said_label f s.forest block (o.stay.labels block block_there (λ e. apart (sym e))))
         (ap (reads_in v.forest) left ∙ reads-same s.forest v.forest (take j cs) (λ q among. child_read q (among_take j cs q among)))
 
     back_read : reads_in v.forest (children_of v.forest n) ≡ back
@@ -299,7 +303,8 @@ record IsMade (s m : Working) : Type 0 where
   fields : Fields
   made : new_step kind fields s ≡ Ok m
 
-made_next : (s m : Working) (block : ℕ) (moved : List ℕ) → has block s.forest ≡ true → new_next s.forest (label_of s.forest block) moved s ≡ Ok m → IsMade s m
+made_next : (s m : Working) (block : ℕ) (moved : List ℕ) → has block s.forest ≡ true → new_next s.forest (label_of s.forest block) moved s ≡ Ok m
+    → IsMade s m
 made_next s m block moved so e = by_label (label_of s.forest block) refl e where
   by_label : (l : Option Label) → label_of s.forest block ≡ l → new_next s.forest l moved s ≡ Ok m → IsMade s m
   by_label None is e = absurd (grind (arith, so, is, is_some-kind_of s.forest block))
@@ -316,7 +321,8 @@ parted_then place block new k w u v caret e i =
     subst (IsPartedAt place block new k w) (was_same (caret_at caret u) v e)
     (record { inside = i.inside; before = i.before; behind = i.behind; fresh = i.fresh; order = i.order; aside = i.aside })
 
-moved_parted : (block k at : ℕ) (rest : List ℕ) (w s v : Working) (i : ℕ) → IsSound w → lies w.forest (text_point k at) ≡ true → parent_of w.forest k ≡ Some block
+moved_parted : (block k at : ℕ) (rest : List ℕ) (w s v : Working) (i : ℕ) → IsSound w → lies w.forest (text_point k at) ≡ true
+    → parent_of w.forest k ≡ Some block
     → IsOpened k at rest w s → index_in (children_of s.forest block) k ≡ Some i
     → moved_on block (drop (place_of (Some i) at) (children_of s.forest block)) s ≡ Ok v
     → IsPartedAt (place_in w.forest block (text_point k at)) block s.next_key k w v
@@ -328,7 +334,8 @@ moved_parted block k at rest w s v i sound place up o is e =
     let sh : IsForest s.forest = o.stay.ready.in_order in
     let there : has block s.forest ≡ true = has-parent_of s.forest k block (o.stay.parents k (has-child w.forest k block up) ∙ up) in
     let one = after_tells (new_next s.forest (label_of s.forest block) moved s)
-    (λ made. after (put_behind_step n block made) (λ put. after (in_turn (moved_to_end n) moved put) (λ v. Ok (caret_at (start_of_first v.forest n moved) v)))) v e in
+    (λ made. after (put_behind_step n block made) (λ put. after (in_turn (moved_to_end n) moved put)
+    (λ v. Ok (caret_at (start_of_first v.forest n moved) v)))) v e in
     let two = after_tells (put_behind_step n block one.0)
     (λ put. after (in_turn (moved_to_end n) moved put) (λ v. Ok (caret_at (start_of_first v.forest n moved) v))) v one.1.1 in
     let three = after_tells (in_turn (moved_to_end n) moved two.0) (λ v. Ok (caret_at (start_of_first v.forest n moved) v)) v two.1.1 in
@@ -387,12 +394,15 @@ cut_parted block k at w v sound place up e =
     let whole : after (parted_up [] (place_of (index_of s.forest k) at) s)
     (λ parted. moved_on block (drop parted.index (children_of parted.draft.forest block)) parted.draft) ≡ Ok v =
     ap (λ ks. after (parted_up ks (place_of (index_of s.forest k) at) s)
-    (λ parted. moved_on block (drop parted.index (children_of parted.draft.forest block)) parted.draft)) (sym (not_parted s.forest k block sh up_s)) ∙ one.1.1 in
+    (λ parted. moved_on block (drop parted.index (children_of parted.draft.forest block)) parted.draft))
+    (sym (not_parted s.forest k block sh up_s)) ∙ one.1.1 in
     let index_is : index_of s.forest k ≡ index_in (children_of s.forest block) k = ap (λ q. index_in (children_below s.forest q) k) up_s in
-    let among : is_among k (children_of s.forest block) ≡ true = grind (arith, is_among-children_of s.forest k block sh, up_s, eqb_tells block block) in
+    let among : is_among k (children_of s.forest block) ≡ true =
+    grind (arith, is_among-children_of s.forest k block sh, up_s, eqb_tells block block) in
     by_index s o.0 o.1 (index_in (children_of s.forest block) k) refl (is_some-index_in (children_of s.forest block) k ∙ among)
     (ap (λ q. moved_on block (drop (place_of q at) (children_of s.forest block)) s) (sym index_is) ∙ whole) where
-      by_index : (s : Working) (rest : List ℕ) → IsOpened k at rest w s → (q : Option ℕ) → index_in (children_of s.forest block) k ≡ q → is_some q ≡ true
+      by_index : (s : Working) (rest : List ℕ) → IsOpened k at rest w s → (q : Option ℕ) → index_in (children_of s.forest block) k ≡ q
+          → is_some q ≡ true
           → moved_on block (drop (place_of q at) (children_of s.forest block)) s ≡ Ok v
           → (new : ℕ) × IsPartedAt (place_in w.forest block (text_point k at)) block new k w v
       by_index s rest o None is some e = absurd (cc)
@@ -410,7 +420,8 @@ break_parted block k at format w v is =
     let caret = at_caret p format w one.0 is.caret one.1.0 in
     let next : after (at_anchor (λ p format. paragraph_at (empty_item w) (block_of w.forest p.key) p) w)
     (λ x. Ok (record { draft = x; item = empty_item w })) ≡ Ok left.0 =
-    ap (λ u. after (at_anchor (λ p format. paragraph_at (empty_item u) (block_of u.forest p.key) p) u) (λ x. Ok (record { draft = x; item = empty_item u })))
+    ap (λ u. after (at_anchor (λ p format. paragraph_at (empty_item u) (block_of u.forest p.key) p) u)
+    (λ x. Ok (record { draft = x; item = empty_item u })))
     caret.1 ∙ one.1.1 in
     let two = after_tells (at_anchor (λ p format. paragraph_at (empty_item w) (block_of w.forest p.key) p) w)
     (λ x. Ok (record { draft = x; item = empty_item w })) left.0 next in
@@ -427,7 +438,8 @@ break_parted block k at format w v is =
     let drafts : two.0 ≡ v =
     let last : ◌≡◌ {A = Result Broken Cause} (Ok (record { draft = two.0; item = empty_item w })) (Ok left.0) = two.1.1 in
     let same : two.0 ≡ left.0.draft = cc in same ∙ left.1.1 in
-    subst (λ u. (new : ℕ) × IsPartedAt (place_in w.forest block p) block new k w u) drafts (cut_parted block k at w two.0 is.sound place is.up cut) where
+    subst (λ u. (new : ℕ) × IsPartedAt (place_in w.forest block p) block new k w u) drafts
+    (cut_parted block k at w two.0 is.sound place is.up cut) where
       not_empty : (xs : List ℕ) (c : ℕ) → is_among c xs ≡ true → eqb (length xs) 0 ≡ false
       not_empty [] c among = absurd (cc)
       not_empty (x ∷ xs) c among = grind arith

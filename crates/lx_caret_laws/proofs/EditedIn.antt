@@ -60,7 +60,8 @@ around_it n m new old now i = record {
 -- ---- in a text
 
 -- a text with a piece replaced
-pub piece_in : (from to : ℕ) (new text : List ℕ) → slice_fault text from to ≡ None → IsIn from to new text (front_of from text ++ new ++ rest_of to text)
+pub piece_in : (from to : ℕ) (new text : List ℕ) → slice_fault text from to ≡ None
+    → IsIn from to new text (front_of from text ++ new ++ rest_of to text)
 piece_in from to new text piece =
     let p = piece_of from to text piece in
     record {
@@ -82,7 +83,8 @@ place_leaf f k at h there none =
 
 -- what is said elsewhere, and which children are there
 says_by : (f g : Forest) (k : ℕ) (now : List ℕ) → OnlyReads k now f g → (x : ℕ) → x ≢ k → said g x ≡ said f x
-says_by f g k now only x other = ap (λ s. text_of (option_map (λ (l : Label). l.fields) (option_map (λ (y : Spot Label). y.label) s))) (only.others x other)
+says_by f g k now only x other = ap (λ s. text_of (option_map (λ (l : Label). l.fields) (option_map (λ (y : Spot Label). y.label) s)))
+    (only.others x other)
 
 edited_at : (f g : Forest) (k : ℕ) (now : List ℕ) → IsForest f → IsForest g → has k f ≡ true → OnlyReads k now f g → OnlyAt f g k k
 edited_at f g k now h j there only =
@@ -114,7 +116,8 @@ edited_around f g k from to new t h j held here piece only =
     let now_is : read_in g k ≡ now =
     read-leaf g k j (only.children ∙ leaf) ∙ ap (λ l. text_of (option_map (λ (l : Label). l.fields) l)) (only.text t here) in
     let inside : IsIn (place_in f k p) (place_in f k q) new (read_in f k) (read_in g k) =
-    of_equals from to _ _ new t.text now _ _ (place_leaf f k from h there leaf) (place_leaf f k to h there leaf) old_is now_is (piece_in from to new t.text piece) in
+    of_equals from to _ _ new t.text now _ _ (place_leaf f k from h there leaf) (place_leaf f k to h there leaf) old_is now_is
+    (piece_in from to new t.text piece) in
     let all : (b : ℕ) → is_within f b k ≡ true → Around (place_in f b p) (place_in f b q) new (read_in f b) (read_in g b) =
     λ b over. around_it _ _ new _ _ (read_above f g k k o p q new refl refl inside b over) in
     record {

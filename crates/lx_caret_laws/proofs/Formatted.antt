@@ -68,7 +68,8 @@ unread_ok w v fit e = subst (Unread w) (was_same w v e) (unread_self w fit)
 pub isolate_unread : (p : _) (w v : Working) → Fit w → isolate_step p w ≡ Ok v → Unread w v
 unfolding isolate_step
 isolate_unread p w v fit e = by_text (normal_at w.forest p.key) refl e where
-  by_text : (o : Option TextFields) → normal_at w.forest p.key ≡ o → cond (is_some o) (split_step p.key (edges w.forest p) w) (Ok w) ≡ Ok v → Unread w v
+  by_text : (o : Option TextFields) → normal_at w.forest p.key ≡ o → cond (is_some o) (split_step p.key (edges w.forest p) w) (Ok w) ≡ Ok v
+      → Unread w v
   by_text None is e = unread_ok w v fit e
   by_text (Some t) is e =
       let here = text_of_normal w.forest p.key t is in
@@ -113,7 +114,8 @@ set_unread : (k : ℕ) (t u : TextFields) (w v : Working) → Fit w → fields_o
 unfolding set_step
 set_unread k t u w v fit is same e =
     let x : Fields = fields.Text u in
-    let told = answered (option_or (set_fault k x w.forest) (over_limits (characters_of x) w)) (fields_written k x (characters_of x) (set_points k x) w) v e in
+    let told = answered (option_or (set_fault k x w.forest) (over_limits (characters_of x) w))
+    (fields_written k x (characters_of x) (set_points k x) w) v e in
     let stays = stays_set k u w v fit e in
     let forest : with_fields k x w.forest ≡ v.forest = ap (λ u. u.forest) told.1 in
     let g : Forest = with_fields k x w.forest in
@@ -148,7 +150,8 @@ last_format : (w u v : Working) (format : ℕ) → ReadsTheSame w.forest u.fores
     → ReadsTheSame w.forest v.forest
 last_format w u v format same e = subst (λ x. ReadsTheSame w.forest x.forest) (was_same (selection_format format u) v e) same
 
-switched_unread : (bit : ℕ) (ks : List ℕ) (w u v : Working) → Fit u → ReadsTheSame w.forest u.forest → (same : Unread w u) → switched_all bit ks u ≡ Ok v
+switched_unread : (bit : ℕ) (ks : List ℕ) (w u v : Working) → Fit u → ReadsTheSame w.forest u.forest → (same : Unread w u)
+    → switched_all bit ks u ≡ Ok v
     → ReadsTheSame w.forest v.forest
 switched_unread bit [] w u v fit so same e = subst (λ x. ReadsTheSame w.forest x.forest) (was_same u v e) so
 switched_unread bit (k ∷ ks) w u v fit so same e =

@@ -93,7 +93,8 @@ isolated_key_other p w q x is fit so other = by_test (is_some (normal_at w.fores
   by_test true is = λ same. absurd (grind (arith, so, same, is, fit.ready.free w.next_key (omega arith)))
 
 all_isolated : (ps : List _) (w : Working) (made : Isolated) (q : ℕ) → Fit w → isolated ps w ≡ Ok made → has q w.forest ≡ true
-    → ((k : ℕ) → is_among k (map (λ p. p.key) ps) ≡ true → has k w.forest ≡ true) → IsApartFrom (map (λ p. p.key) ps) w.forest q → AllIsolated w made q
+    → ((k : ℕ) → is_among k (map (λ p. p.key) ps) ≡ true → has k w.forest ≡ true) → IsApartFrom (map (λ p. p.key) ps) w.forest q
+    → AllIsolated w made q
 unfolding isolated
 all_isolated [] w made q fit e so there apart =
     let is : ◌≡◌ {A = Isolated} (record { draft = w; texts = [] }) made = cc in
@@ -102,7 +103,8 @@ all_isolated (p ∷ ps) w made q fit e so there apart =
     let first = after_tells (isolate_step p w) (λ v. after (isolated ps v) (and_before (isolated_key p w))) made e in
     let u : Working = first.0 in
     let second = after_tells (isolated ps u) (and_before (isolated_key p w)) made first.1.1 in
-    let last : ◌≡◌ {A = Result Isolated Cause} (Ok (record { draft = second.0.draft; texts = isolated_key p w ∷ second.0.texts })) (Ok made) = second.1.1 in
+    let last : ◌≡◌ {A = Result Isolated Cause} (Ok (record { draft = second.0.draft; texts = isolated_key p w ∷ second.0.texts })) (Ok made) =
+    second.1.1 in
     let is : ◌≡◌ {A = Isolated} (record { draft = second.0.draft; texts = isolated_key p w ∷ second.0.texts }) made = cc in
     let other : q ≢ p.key = λ same. absurd (grind (arith, apart.other, same, eqb_tells p.key q)) in
     let one = isolated_so p w u fit first.1.0 in
@@ -129,7 +131,8 @@ set_still : (k : ℕ) (u : TextFields) (w v : Working) (q : ℕ) → set_step k 
 unfolding set_step
 set_still k u w v q e other =
     let x : Fields = fields.Text u in
-    let told = answered (option_or (set_fault k x w.forest) (over_limits (characters_of x) w)) (fields_written k x (characters_of x) (set_points k x) w) v e in
+    let told = answered (option_or (set_fault k x w.forest) (over_limits (characters_of x) w))
+    (fields_written k x (characters_of x) (set_points k x) w) v e in
     let forest : with_fields k x w.forest ≡ v.forest = ap (λ (y : Working). y.forest) told.1 in
     subst (λ g. Still w.forest g q) forest (record { label = label_other w.forest k x q other; children = children_of-with_fields k x w.forest q })
 
@@ -159,7 +162,8 @@ all_switched bit (k ∷ ks) w v q e out =
     (each_still on bit (k ∷ ks) w first.0 q first.1.0 out)
 
 formatted_still : (bit : ℕ) (ps : List _) (format : ℕ) (w v : Working) (q : ℕ) → Fit w → formatted bit ps format w ≡ Ok v → has q w.forest ≡ true
-    → ((k : ℕ) → is_among k (map (λ p. p.key) ps) ≡ true → has k w.forest ≡ true) → IsApartFrom (map (λ p. p.key) ps) w.forest q → Still w.forest v.forest q
+    → ((k : ℕ) → is_among k (map (λ p. p.key) ps) ≡ true → has k w.forest ≡ true) → IsApartFrom (map (λ p. p.key) ps) w.forest q
+    → Still w.forest v.forest q
 formatted_still bit [] format w v q fit e so there apart =
     subst (λ x. Still w.forest x.forest q) (was_same (selection_format (switched (not (has_bit bit format)) bit format) w) v e)
     (record { label = refl; children = refl })
@@ -179,7 +183,8 @@ map_among xs ys k P first second e = elim (either (is_among k xs) (is_among k ys
   either true b e = inl refl
   either false b e = inr e
 
-kept_among : {A : Type 0} (key : A → ℕ) (test : A → Bool) (xs : List A) (k : ℕ) → is_among k (map key (filter test xs)) ≡ true → is_among k (map key xs) ≡ true
+kept_among : {A : Type 0} (key : A → ℕ) (test : A → Bool) (xs : List A) (k : ℕ) → is_among k (map key (filter test xs)) ≡ true
+    → is_among k (map key xs) ≡ true
 kept_among key test [] k e = e
 kept_among key test (x ∷ xs) k e = by_test (test x) (kept_among key test xs k) e where
   by_test : (b : Bool) → (is_among k (map key (filter test xs)) ≡ true → is_among k (map key xs) ≡ true)
@@ -232,7 +237,8 @@ pieces_there f start end k first second e =
     let inner : List ℕ = filter (is_at has_characters f) (covered f start end) in
     let all = kept_among (λ p. p.key) (λ p. nat_lt p.from p.to)
     (start_piece f start end start.kind ++ (map (whole f) inner ++ end_piece start end end.kind)) k e in
-    let parts : is_among k (map (λ p. p.key) (start_piece f start end start.kind) ++ (inner ++ map (λ p. p.key) (end_piece start end end.kind))) ≡ true =
+    let parts : is_among k (map (λ p. p.key) (start_piece f start end start.kind) ++ (inner ++ map (λ p. p.key) (end_piece start end end.kind)))
+    ≡ true =
     sym (ap (is_among k)
     (joined_keys (λ p. p.key) (start_piece f start end start.kind) (map (whole f) inner ++ end_piece start end end.kind)
     ∙ ap (λ ks. map (λ p. p.key) (start_piece f start end start.kind) ++ ks)
@@ -253,9 +259,12 @@ format_still bit r w v q sound range e so apart =
     let is = range_lies w r range in
     let here : formatted bit (pieces f (start_of f r) (end_of f r)) r.format w ≡ Ok v =
     sym (ap (λ x. after x (λ r. formatted bit (pieces f (start_of f r) (end_of f r)) r.format w)) range) ∙ e in
-    let there : (p : Point) → lies f p ≡ true → has p.key f ≡ true = λ p place. attached_there f p.key (both (is_attached f p.key) (lies_in f p) place).0 in
-    let start : has (start_of f r).key f ≡ true = either_point r.anchor r.focus (comes_first f r.anchor r.focus) (there r.anchor is.anchor) (there r.focus is.focus) in
-    let end : has (end_of f r).key f ≡ true = either_point r.focus r.anchor (comes_first f r.anchor r.focus) (there r.focus is.focus) (there r.anchor is.anchor) in
+    let there : (p : Point) → lies f p ≡ true → has p.key f ≡ true =
+    λ p place. attached_there f p.key (both (is_attached f p.key) (lies_in f p) place).0 in
+    let start : has (start_of f r).key f ≡ true = either_point r.anchor r.focus (comes_first f r.anchor r.focus) (there r.anchor is.anchor)
+    (there r.focus is.focus) in
+    let end : has (end_of f r).key f ≡ true = either_point r.focus r.anchor (comes_first f r.anchor r.focus) (there r.focus is.focus)
+    (there r.anchor is.anchor) in
     formatted_still bit (pieces f (start_of f r) (end_of f r)) r.format w v q (fit_of w r sound.ready sound.held sound.short is) here so
     (λ k among. pieces_there f (start_of f r) (end_of f r) k start end among) apart where
       either_point : (a b : Point) (t : Bool) → has a.key w.forest ≡ true → has b.key w.forest ≡ true → has (cond t a b).key w.forest ≡ true

@@ -44,7 +44,8 @@ use Rattle.std.specs.Prelude.{filter, is_some, nat_le, nat_lt, not}
 -- ---- a piece that is cut out
 
 -- a point at either end of what is cut out is between what was before it and what was after it
-point_left : (k from to o : ℕ) → from ≤ to → from ≤ last_u32 → (o ≡ from) ⊎ (o ≡ to) → splice_moves k from to (length_told []) (text_point k o) ≡ text_point k from
+point_left : (k from to o : ℕ) → from ≤ to → from ≤ last_u32 → (o ≡ from) ⊎ (o ≡ to)
+    → splice_moves k from to (length_told []) (text_point k o) ≡ text_point k from
 unfolding splice_moves spliced_offset offset_sum
 point_left k from to o order few (inl at) =
     grind (arith, at, eqb_tells k k, nat_tests)
@@ -59,7 +60,8 @@ out k from to t w v sound here e =
     let s = was_spliced k from to [] t w v sound.short here e in
     let piece = piece_of from to t.text s.piece in
     let read : OnlyReads k (front_of from t.text ++ [] ++ rest_of to t.text) w.forest v.forest =
-    subst (λ g. OnlyReads k (spliced_text from to [] t.text) w.forest g) (sym s.forest) (only_reads w.forest k t (spliced_text from to [] t.text) here) in
+    subst (λ g. OnlyReads k (spliced_text from to [] t.text) w.forest g) (sym s.forest)
+    (only_reads w.forest k t (spliced_text from to [] t.text) here) in
     let order : IsForest v.forest = subst IsForest (sym s.forest) (IsForest-with_fields k _ w.forest sound.ready.in_order) in
     record {
       parted = pieces-whole from to t.text s.piece;
@@ -182,7 +184,8 @@ caret_sound k from w sound = record {
 pub cut_gone : (k from to format : ℕ) (t : TextFields) (w v : Working) → IsSelectedIn k from to format t w → IsCutOut k from to format w v
     → IsGone k from to format t.text w v
 cut_gone k from to format t w v is c =
-    let told = gone k from to from format t (caret_at (text_point k from) w) v (caret_sound k from w is.sound) (text_of_normal w.forest k t is.normal) c.caret
+    let told = gone k from to from format t (caret_at (text_point k from) w) v (caret_sound k from w is.sound)
+    (text_of_normal w.forest k t is.normal) c.caret
     (inl refl) c.cut in
     record {
       out = record { parted = told.out.parted; length = told.out.length; read = told.out.read; around = told.out.around };
@@ -195,7 +198,8 @@ deleted_goes : (back : Bool) (reach : Reach) (a b : Point) (format : ℕ) (w v :
 unfolding delete_step
 deleted_goes back reach a b format w v selects apart e =
     let r : Ranged = ranged a b format in
-    let first = after_tells (range_of w) (λ r. cond (is_collapsed r) (deleted_in back reach r.anchor (block_of w.forest r.anchor.key) w) (removed_in r w)) v e in
+    let first = after_tells (range_of w) (λ r. cond (is_collapsed r) (deleted_in back reach r.anchor (block_of w.forest r.anchor.key) w)
+    (removed_in r w)) v e in
     let took = taken a b format w first.0 selects first.1.0 in
     let same : first.0 ≡ r =
     let both_are : ◌≡◌ {A = Result Ranged Cause} (Ok first.0) (Ok r) = sym first.1.0 ∙ took.is in cc in
@@ -225,7 +229,8 @@ unfolding delete_step erase_step
 erased_at back reach k at format t w v is more e =
     let p : Point = text_point k at in
     let r : Ranged = ranged p p format in
-    let first = after_tells (range_of w) (λ r. cond (is_collapsed r) (deleted_in back reach r.anchor (block_of w.forest r.anchor.key) w) (removed_in r w)) v e in
+    let first = after_tells (range_of w) (λ r. cond (is_collapsed r) (deleted_in back reach r.anchor (block_of w.forest r.anchor.key) w)
+    (removed_in r w)) v e in
     let took = taken p p format w first.0 is.caret first.1.0 in
     let same : first.0 ≡ r =
     let both_are : ◌≡◌ {A = Result Ranged Cause} (Ok first.0) (Ok r) = sym first.1.0 ∙ took.is in cc in
@@ -238,7 +243,8 @@ erased_at back reach k at format t w v is more e =
     let block = text_in_block w.forest k is.sound.ready.in_order is.sound.held place text.kind_is in
     let inside : deleted_in back reach p (Some block.0) w ≡ Ok v = sym (ap (λ o. deleted_in back reach p o w) block.1) ∙ deleted in
     sym (ap (λ o. erased back reach k at o w) is.normal)
-    ∙ sym (ap (λ b. cond b (erased back reach k at (normal_at w.forest k) w) (leaf_or_line back reach block.0 (leaf_beside back w.forest block.0 p) w)) more)
+    ∙ sym (ap (λ b. cond b (erased back reach k at (normal_at w.forest k) w)
+    (leaf_or_line back reach block.0 (leaf_beside back w.forest block.0 p) w)) more)
     ∙ inside
 
 gone_before : (reach : Reach) (k at format : ℕ) (t : TextFields) (w v : Working) → IsCaretIn k at format t w → 0 < at
@@ -265,7 +271,8 @@ unfolding delete_step leaf_step erase_step
 leaf_out back reach leaf t p format w v is e =
     let r : Ranged = ranged p p format in
     let here : text_in (label_of w.forest leaf) ≡ Some t = text_of_normal w.forest leaf t is.normal in
-    let first = after_tells (range_of w) (λ r. cond (is_collapsed r) (deleted_in back reach r.anchor (block_of w.forest r.anchor.key) w) (removed_in r w)) v e in
+    let first = after_tells (range_of w) (λ r. cond (is_collapsed r) (deleted_in back reach r.anchor (block_of w.forest r.anchor.key) w)
+    (removed_in r w)) v e in
     let took = taken p p format w first.0 is.caret first.1.0 in
     let same : first.0 ≡ r =
     let both_are : ◌≡◌ {A = Result Ranged Cause} (Ok first.0) (Ok r) = sym first.1.0 ∙ took.is in cc in
@@ -275,7 +282,8 @@ leaf_out back reach leaf t p format w v is e =
     sym (ap (λ b. cond b (deleted_in back reach p (block_of w.forest p.key) w) (removed_in r w)) (collapsed p format)) ∙ whole in
     let inside : deleted_in back reach p (Some is.block) w ≡ Ok v = sym (ap (λ o. deleted_in back reach p o w) is.within) ∙ deleted in
     let beside : leaf_or_line back reach is.block (Some leaf) w ≡ Ok v =
-    sym (ap (λ b. cond b (erase_step back reach p.key p.offset w) (leaf_or_line back reach is.block (leaf_beside back w.forest is.block p) w)) is.at_edge
+    sym (ap (λ b. cond b (erase_step back reach p.key p.offset w)
+    (leaf_or_line back reach is.block (leaf_beside back w.forest is.block p) w)) is.at_edge
     ∙ ap (λ o. leaf_or_line back reach is.block o w) is.beside) ∙ inside in
     let length : characters_at w.forest leaf ≡ text_length t.text =
     ap length_of (text_at w.forest leaf t here).fields_are ∙ told-all t.text (text_few w leaf t is.sound here) in

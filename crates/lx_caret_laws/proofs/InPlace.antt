@@ -194,7 +194,8 @@ module _ (f g : Forest) (base m : ℕ) (o : OnlyAt f g base m) where
     pub among : (b c : ℕ) (ks xs : List ℕ) → NoRepeats xs → ((x : ℕ) → is_among x xs ≡ true → parent_of f x ≡ Some b) → is_among c xs ≡ true
         → is_within f c m ≡ true
         → IsIn (place_in f c p) (place_in f c q) new (read_in f c) (reads_in g ks)
-        → IsIn (place_along f p (spread (keys_within f) xs)) (place_along f q (spread (keys_within f) xs)) new (reads_in f xs) (reads_in g (in_place_of c ks xs))
+        → IsIn (place_along f p (spread (keys_within f) xs)) (place_along f q (spread (keys_within f) xs)) new (reads_in f xs)
+        (reads_in g (in_place_of c ks xs))
     among b c ks [] once up there holds inside = absurd (cc)
     among b c ks (x ∷ xs) once up there holds inside = elim (eqb_tells x c) [
       | inl own ↦
@@ -224,7 +225,8 @@ module _ (f g : Forest) (base m : ℕ) (o : OnlyAt f g base m) where
           let later : is_among c xs ≡ true = grind (arith, there, other) in
           let inner = among b c ks xs once.1 (λ y at. up y (grind (arith, at))) later holds inside in
           let keys : List ℕ = spread (keys_within f) xs in
-          let more = wrapped (place_along f p keys) (place_along f q keys) new (reads_in f xs) (reads_in g (in_place_of c ks xs)) (read_in f x) [] inner in
+          let more = wrapped (place_along f p keys) (place_along f q keys) new (reads_in f xs) (reads_in g (in_place_of c ks xs))
+          (read_in f x) [] inner in
           let n_is = place-behind f p x keys (ap (is_within f x) p_on ∙ far) in
           let m_is = place-behind f q x keys (ap (is_within f x) q_on ∙ far) in
           let now_is : reads_in g (in_place_of c ks (x ∷ xs)) ≡ read_in f x ++ reads_in g (in_place_of c ks xs) =

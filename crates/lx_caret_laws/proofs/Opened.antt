@@ -94,7 +94,8 @@ split_open : (k at : ℕ) (t : TextFields) (w s : Working) → IsSound w → tex
     → split_step k (at ∷ []) w ≡ Ok s → IsOpened k at (w.next_key ∷ []) w s
 split_open k at t w s sound here place e =
     let new : List ℕ = w.next_key ∷ [] in
-    let few : text_length (told.text_at w.forest k) ≤ last_u32 = subst (λ s. text_length s ≤ last_u32) (sym (ap text_or_none here)) (text_few w k t sound here) in
+    let few : text_length (told.text_at w.forest k) ≤ last_u32 =
+    subst (λ s. text_length s ≤ last_u32) (sym (ap text_or_none here)) (text_few w k t sound here) in
     let is : IsSplit k (at ∷ []) (k ∷ new) w s = record { ready = sound.ready; split = e; pieces_are = refl; fits = few } in
     let a : IsLeft k (at ∷ []) new w s = left k (at ∷ []) (k ∷ new) w s is in
     let said_piece : (q : ℕ) → is_among q (k ∷ new) ≡ true → said s.forest q ≡ told.text_at s.forest q =

@@ -70,7 +70,8 @@ unfolding new_step
 made_forest kind x s m e =
     let told = answered (over_limits (characters_of x) s) (made kind x s) m e in ap (λ (u : Working). u.forest) told.1
 
-pub put_placed : (kind : Kind) (x : Fields) (p index : ℕ) (s m v : Working) → IsReady s → new_step kind x s ≡ Ok m → put_step s.next_key p index m ≡ Ok v
+pub put_placed : (kind : Kind) (x : Fields) (p index : ℕ) (s m v : Working) → IsReady s → new_step kind x s ≡ Ok m
+    → put_step s.next_key p index m ≡ Ok v
     → IsPlaced s.forest v.forest p s.next_key (slice_get (children_of s.forest p) index) (label_new s kind x)
 put_placed kind x p index s m v ready new put =
     let l : Label = label_new s kind x in
@@ -131,7 +132,8 @@ module _ (kind : Kind) (x : Fields) (k : ℕ) (s m v : Working) (ready : IsReady
   up_still = ap (λ f. parent_of f k) (sym (made_forest kind x s m new)) ∙ parent_of-with_new (label_new s kind x) s.forest k ready.in_order free
 
   children_still : (p : ℕ) → children_of m.forest p ≡ children_of s.forest p
-  children_still p = ap (λ f. children_of f p) (sym (made_forest kind x s m new)) ∙ children_of-with_new (label_new s kind x) s.forest p ready.in_order free
+  children_still p = ap (λ f. children_of f p) (sym (made_forest kind x s m new))
+      ∙ children_of-with_new (label_new s kind x) s.forest p ready.in_order free
 
   index_here : (p i : ℕ) → parent_of m.forest k ≡ Some p → index_of m.forest k ≡ Some i → index_in (children_of s.forest p) k ≡ Some i
   index_here p i up at = sym (ap (λ o. index_in (children_below m.forest o) k) up ∙ ap (λ cs. index_in cs k) (children_still p)) ∙ at

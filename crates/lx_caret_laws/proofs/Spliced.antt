@@ -42,7 +42,8 @@ text_of_normal f k t e = text_if_normal (text_in (label_of f k)) t e
 pub text_few : (w : Working) (k : ℕ) (t : TextFields) → IsSound w → text_in (label_of w.forest k) ≡ Some t → text_length t.text ≤ last_u32
 text_few w k t sound here =
     u32-tells (text_length t.text) w.written
-    (subst (λ x. text_length (text_of x) ≤ 2 * (most_characters + w.written)) (text_at w.forest k t here).fields_are (sound.short.each k)) sound.written
+    (subst (λ x. text_length (text_of x) ≤ 2 * (most_characters + w.written)) (text_at w.forest k t here).fields_are
+    (sound.short.each k)) sound.written
 
 -- ---- the forest
 

@@ -57,7 +57,8 @@ cut_written : (k o : ℕ) (rest : List ℕ) (w v : Working) → cut_at k 0 (o �
 unfolding cut_in_two
 cut_written k o rest w v e =
     let first = first_part (cut_in_two k (o - 0) w) (cut_at w.next_key o rest) v e in
-    let tail = first_part (tail_made k (o - 0) w) (λ made. after (splice_step k (o - 0) (length_at w.forest k) [] made) (put_behind_step w.next_key k)) first.0 first.1 in
+    let tail = first_part (tail_made k (o - 0) w) (λ made. after (splice_step k (o - 0) (length_at w.forest k) [] made)
+    (put_behind_step w.next_key k)) first.0 first.1 in
     tail_written k (o - 0) w tail.0 tail.1
 
 -- ---- what is read
@@ -66,7 +67,8 @@ cut_written k o rest w v e =
 pub text_said : (f : Forest) (k : ℕ) (t : TextFields) → text_in (label_of f k) ≡ Some t → said f k ≡ told.text_at f k
 text_said f k t here = ap text_of (text_at f k t here).fields_are ∙ sym (ap text_or_none here)
 
-pub label_said : (f : Forest) (q : ℕ) (t : TextFields) (now : List ℕ) → label_of f q ≡ Some (record { key = q; kind = kinds.Text; fields = text_replaced t now })
+pub label_said : (f : Forest) (q : ℕ) (t : TextFields) (now : List ℕ)
+    → label_of f q ≡ Some (record { key = q; kind = kinds.Text; fields = text_replaced t now })
     → said f q ≡ told.text_at f q
 label_said f q t now e = ap (λ o. text_of (option_map (λ (l : Label). l.fields) o)) e ∙ sym (ap (λ o. text_or_none (text_in o)) e)
 
@@ -96,11 +98,13 @@ module _ (k : ℕ) (list new : List ℕ) (t : TextFields) (w v : Working) (h : I
       let c = or_parts (eqb b k) (not (has b w.forest)) clear in
       let so : has b w.forest ≡ true = grind (arith, c.1) in
       record {
-        own = ap (λ o. text_of (option_map (λ (l : Label). l.fields) o)) (a.stay.labels b so (λ same. absurd (grind (arith, same, c.0, eqb_tells b k))));
+        own = ap (λ o. text_of (option_map (λ (l : Label). l.fields) o))
+            (a.stay.labels b so (λ same. absurd (grind (arith, same, c.0, eqb_tells b k))));
         below = elim (is_named_tells (parent_of w.forest k) b) [
           | inl above ↦
               ap (reads_in v.forest) (a.stay.order b above.1)
-              ∙ reads-in_place w.forest v.forest k (k ∷ new) (children_of w.forest b) (NoRepeats-children_of w.forest b h) pieces_read (λ q among apart.
+              ∙ reads-in_place w.forest v.forest k (k ∷ new) (children_of w.forest b) (NoRepeats-children_of w.forest b h) pieces_read
+              (λ q among apart.
               let up = parent_here w.forest b q h among in
               known q up (grind (arith, apart, has-child w.forest q b up, eqb_tells q k)))
           | inr far ↦

@@ -52,12 +52,14 @@ unfolding typed_new
 new_around text k at point.Text format w v sound place may e =
     let x : TextFields = fields_typed text format (style_in (normal_at w.forest k)) in
     let first = after_tells (add_step _ kinds.Text _ w) (λ u. Ok (caret_at (text_point (newest u) (length_told text)) u)) v e in
-    subst (λ u. ReadsBetween (text_point k at) (text_point k at) text w.forest u.forest) (was_same (caret_at (text_point (newest first.0) (length_told text)) first.0) v first.1.1)
+    subst (λ u. ReadsBetween (text_point k at) (text_point k at) text w.forest u.forest)
+    (was_same (caret_at (text_point (newest first.0) (length_told text)) first.0) v first.1.1)
     (added_there text k at kinds.Text (fields.Text x) w first.0 sound refl place may first.1.0)
 new_around text k at point.Element format w v sound place may e =
     let x : TextFields = fields_typed text format (style_in (normal_at w.forest k)) in
     let first = after_tells (add_step _ kinds.Text _ w) (λ u. Ok (caret_at (text_point (newest u) (length_told text)) u)) v e in
-    subst (λ u. ReadsBetween (element_point k at) (element_point k at) text w.forest u.forest) (was_same (caret_at (text_point (newest first.0) (length_told text)) first.0) v first.1.1)
+    subst (λ u. ReadsBetween (element_point k at) (element_point k at) text w.forest u.forest)
+    (was_same (caret_at (text_point (newest first.0) (length_told text)) first.0) v first.1.1)
     (added_element text k at kinds.Text (fields.Text x) w first.0 sound refl place first.1.0)
 
 -- ---- into the text
@@ -69,7 +71,8 @@ unfolding is_element
 counts_text w k at point.Text place is = refl
 counts_text w k at point.Element place is =
     let inner = (both (is_attached w.forest k) (lies_in w.forest (record { key = k; offset = at; kind = point.Element })) place).1 in
-    let counted = (both (is_counted_in point.Element (kind_of w.forest k)) (is_place w.forest (record { key = k; offset = at; kind = point.Element }) point.Element) inner).0 in
+    let counted = (both (is_counted_in point.Element (kind_of w.forest k))
+    (is_place w.forest (record { key = k; offset = at; kind = point.Element }) point.Element) inner).0 in
     let bad : false ≡ true = sym (ap (is_counted_in point.Element) is) ∙ counted in absurd (cc)
 
 of_format_tells : (format : ℕ) (o : Option TextFields) → is_of_format format o ≡ true → (t : TextFields) × ((o ≡ Some t) × (t.format ≡ format))
@@ -82,8 +85,10 @@ not_empty : (text : List ℕ) → text ≢ [] → has_no_text text ≡ false
 not_empty [] some = absurd (some refl)
 not_empty (c ∷ cs) some = refl
 
-at_point : (text : List ℕ) (k at : ℕ) (kind : PointKind) (format : ℕ) (w v : Working) → IsCaretAt (record { key = k; offset = at; kind = kind }) format w → text ≢ []
-    → insert_text_step text w ≡ Ok v → ReadsBetween (record { key = k; offset = at; kind = kind }) (record { key = k; offset = at; kind = kind }) text w.forest v.forest
+at_point : (text : List ℕ) (k at : ℕ) (kind : PointKind) (format : ℕ) (w v : Working)
+    → IsCaretAt (record { key = k; offset = at; kind = kind }) format w → text ≢ []
+    → insert_text_step text w ≡ Ok v → ReadsBetween (record { key = k; offset = at; kind = kind })
+    (record { key = k; offset = at; kind = kind }) text w.forest v.forest
 unfolding insert_text_step typed
 at_point text k at kind format w v is some done =
     let p : Point = record { key = k; offset = at; kind = kind } in
@@ -96,7 +101,8 @@ at_point text k at kind format w v is some done =
     let went : typed text p format w ≡ Ok v = sym (ap (λ s. at_anchor_of s (typed text) w) is.caret) ∙ anchored in
     by_test (is_of_format format (normal_at w.forest k)) refl caret.0.anchor went where
       by_test : (b : Bool) → is_of_format format (normal_at w.forest k) ≡ b → lies w.forest (record { key = k; offset = at; kind = kind }) ≡ true
-          → cond b (typed_into text (record { key = k; offset = at; kind = kind }) w) (typed_new text format (record { key = k; offset = at; kind = kind }) w) ≡ Ok v
+          → cond b (typed_into text (record { key = k; offset = at; kind = kind }) w)
+          (typed_new text format (record { key = k; offset = at; kind = kind }) w) ≡ Ok v
           → ReadsBetween (record { key = k; offset = at; kind = kind }) (record { key = k; offset = at; kind = kind }) text w.forest v.forest
       by_test false other place e = new_around text k at kind format w v is.sound place is.open_there e
       by_test true own place e =
@@ -120,7 +126,8 @@ put_around kind x p w u sound place may e = by_kind p.kind place may e where
   by_kind : (c : PointKind) → lies w.forest (record { key = p.key; offset = p.offset; kind = c }) ≡ true
       → (is_inside w.forest (record { key = p.key; offset = p.offset; kind = c }) c ≡ true → is_some (normal_at w.forest p.key) ≡ true)
       → add_step (record { key = p.key; offset = p.offset; kind = c }) kind x w ≡ Ok u
-      → ReadsBetween (record { key = p.key; offset = p.offset; kind = c }) (record { key = p.key; offset = p.offset; kind = c }) (text_of (Some x)) w.forest u.forest
+      → ReadsBetween (record { key = p.key; offset = p.offset; kind = c }) (record { key = p.key; offset = p.offset; kind = c })
+      (text_of (Some x)) w.forest u.forest
   by_kind point.Text place may e = added_there (text_of (Some x)) p.key p.offset kind x w u sound refl place may e
   by_kind point.Element place may e = added_element (text_of (Some x)) p.key p.offset kind x w u sound refl place e
 
@@ -140,7 +147,8 @@ tab_around p format w v is e =
     subst (λ u. ReadsBetween p p (9 ∷ []) w.forest u.forest) (was_same (caret_at (text_point (newest first.0) 1) first.0) v first.1.1)
     (put_around kinds.Tab (tab_fields format) p w first.0 is.sound at.0 is.open_there first.1.0)
 
-break_around : (p : Point) (format : ℕ) (w v : Working) → IsCaretAt p format w → insert_line_break_step w ≡ Ok v → ReadsBetween p p [] w.forest v.forest
+break_around : (p : Point) (format : ℕ) (w v : Working) → IsCaretAt p format w → insert_line_break_step w ≡ Ok v
+    → ReadsBetween p p [] w.forest v.forest
 unfolding insert_line_break_step broken
 break_around p format w v is e =
     let at = at_point_of broken p format w v is.caret e in

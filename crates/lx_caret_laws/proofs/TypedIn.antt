@@ -109,7 +109,8 @@ is_read text k at t w v is =
     ap (λ u. cond (has_no_text text) (Ok u) (at_anchor (typed text) u)) caret.1 ∙ first.1.1 in
     let place = place_lies w.forest k at t (text_of_normal w.forest k t is.normal) caret.0.anchor in
     record { taken = caret.0; into = by_text place.0 text is next } where
-      by_text : is_offset at t.text ≡ true → (text : List ℕ) → IsTyped text k at t w v → cond (has_no_text text) (Ok w) (at_anchor (typed text) w) ≡ Ok v → IsInto text k at t w v
+      by_text : is_offset at t.text ≡ true → (text : List ℕ) → IsTyped text k at t w v
+          → cond (has_no_text text) (Ok w) (at_anchor (typed text) w) ≡ Ok v → IsInto text k at t w v
       by_text place [] is next = none_typed k at t w v is place (was_same w v next)
       by_text place (c ∷ cs) is next = into (c ∷ cs) k at t w v is (by_format (c ∷ cs) k at t w v is next)
 
@@ -118,5 +119,6 @@ pub into_around : (typed : List ℕ) (k at : ℕ) (t : TextFields) (w v : Workin
     → ReadsBetween (text_point k at) (text_point k at) typed w.forest v.forest
 into_around typed k at t w v is =
     let into = (is_read typed k at t w v is).into in
-    edited_around w.forest v.forest k at at typed t is.sound.ready.in_order into.ordered is.sound.held (text_of_normal w.forest k t is.normal) into.piece
+    edited_around w.forest v.forest k at at typed t is.sound.ready.in_order into.ordered is.sound.held
+    (text_of_normal w.forest k t is.normal) into.piece
     into.read

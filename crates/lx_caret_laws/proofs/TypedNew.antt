@@ -65,7 +65,8 @@ among_placed k q ks (x ∷ xs) there among = elim (eqb_tells x k) [
 
 -- ---- beside a text or tab
 
-module _ (typed : List ℕ) (k at : ℕ) (kind : Kind) (x : Fields) (w s v : Working) (rest ks : List ℕ) (sound : IsSound w) (place : lies w.forest (text_point k at) ≡ true)
+module _ (typed : List ℕ) (k at : ℕ) (kind : Kind) (x : Fields) (w s v : Working) (rest ks : List ℕ) (sound : IsSound w)
+    (place : lies w.forest (text_point k at) ≡ true)
     (text : text_of (Some x) ≡ typed) (o : IsOpened k at rest w s)
     (b : IsBeside s.forest v.forest k s.next_key ks (label_new s kind x)) where
   h : IsForest w.forest
@@ -77,7 +78,8 @@ module _ (typed : List ℕ) (k at : ℕ) (kind : Kind) (x : Fields) (w s v : Wor
   no_element : is_at is_element w.forest k ≡ false
   no_element =
       let inner = (both (is_attached w.forest k) (lies_in w.forest (text_point k at)) place).1 in
-      characters_no_element (kind_of w.forest k) (both (is_counted_in point.Text (kind_of w.forest k)) (is_place w.forest (text_point k at) point.Text) inner).0
+      characters_no_element (kind_of w.forest k) (both (is_counted_in point.Text (kind_of w.forest k))
+      (is_place w.forest (text_point k at) point.Text) inner).0
 
   leaf : children_of w.forest k ≡ []
   leaf = no_children w.forest k h sound.held no_element
@@ -134,7 +136,8 @@ module _ (typed : List ℕ) (k at : ℕ) (kind : Kind) (x : Fields) (w s v : Wor
   piece_read q among =
       let bare : children_of s.forest q ≡ [] = o.stay.bare leaf q among in
       let there_k : is_among k (children_of w.forest pr) ≡ true = grind (arith, is_among-children_of w.forest k pr h, up, eqb_tells pr pr) in
-      let below : is_among q (children_of s.forest pr) ≡ true = ap (is_among q) (o.stay.order pr up) ∙ among_placed k q (k ∷ rest) (children_of w.forest pr) there_k among in
+      let below : is_among q (children_of s.forest pr) ≡ true = ap (is_among q) (o.stay.order pr up)
+      ∙ among_placed k q (k ∷ rest) (children_of w.forest pr) there_k among in
       let so : has q s.forest ≡ true = has-child s.forest q pr (parent_here s.forest pr q o.stay.ready.in_order below) in
       let other : q ≢ pr = λ e.
       let none : is_among q [] ≡ true = sym (ap (is_among q) (ap (children_of s.forest) (sym e) ∙ bare)) ∙ below in absurd (cc) in
@@ -159,7 +162,8 @@ module _ (typed : List ℕ) (k at : ℕ) (kind : Kind) (x : Fields) (w s v : Wor
   here = place_leaf w.forest k at h there leaf
 
   -- the new text before it
-  ahead : at ≡ 0 → ks ≡ s.next_key ∷ k ∷ [] → IsIn (place_in w.forest k p) (place_in w.forest k p) typed (read_in w.forest k) (reads_in v.forest (ks ++ rest))
+  ahead : at ≡ 0 → ks ≡ s.next_key ∷ k ∷ [] → IsIn (place_in w.forest k p) (place_in w.forest k p) typed (read_in w.forest k)
+      (reads_in v.forest (ks ++ rest))
   ahead start is =
       let now : reads_in v.forest (ks ++ rest) ≡ typed ++ said w.forest k =
       ap (λ qs. reads_in v.forest (qs ++ rest)) is ∙ ap₂ (λ a c. a ++ c) new_read (pieces_read (k ∷ rest) (λ q among. among) ∙ o.whole) in
@@ -174,7 +178,8 @@ module _ (typed : List ℕ) (k at : ℕ) (kind : Kind) (x : Fields) (w s v : Wor
       }
 
   -- the new text after it, or after its first part
-  behind : at ≢ 0 → ks ≡ k ∷ s.next_key ∷ [] → IsIn (place_in w.forest k p) (place_in w.forest k p) typed (read_in w.forest k) (reads_in v.forest (ks ++ rest))
+  behind : at ≢ 0 → ks ≡ k ∷ s.next_key ∷ [] → IsIn (place_in w.forest k p) (place_in w.forest k p) typed (read_in w.forest k)
+      (reads_in v.forest (ks ++ rest))
   behind some is =
       let first : is_among k (k ∷ rest) ≡ true = grind (arith, eqb_tells k k) in
       let front : List ℕ = said s.forest k in
@@ -199,7 +204,8 @@ module _ (typed : List ℕ) (k at : ℕ) (kind : Kind) (x : Fields) (w s v : Wor
       let g : Forest = v.forest in
       let says : said g pr ≡ said f pr = said_label f g pr (label_still pr parent_there (λ e. apart (sym e))) in
       let level = read_level f g pr k only_at p p typed refl refl pr k (ks ++ rest) up (is_within-self f k ∙ there) says order inside in
-      let all : (b : ℕ) → is_at is_element f b ≡ true → is_within f b k ≡ true → Around (place_in f b p) (place_in f b p) typed (read_in f b) (read_in g b) =
+      let all : (b : ℕ) → is_at is_element f b ≡ true → is_within f b k ≡ true
+      → Around (place_in f b p) (place_in f b p) typed (read_in f b) (read_in g b) =
       λ b element over.
       let other : k ≢ b = λ e. let bad : false ≡ true = sym (ap (is_at is_element f) (sym e) ∙ no_element) ∙ element in absurd (cc) in
       around_it _ _ typed _ _ (read_above f g pr k only_at p p typed refl refl level b (sym (is_within-up f b k pr h up other) ∙ over)) in
@@ -228,7 +234,8 @@ insert_read : (f g : Forest) (n i : ℕ) (cs : List ℕ) → ((q : ℕ) → is_a
 insert_read f g n zero cs same within = ap (λ t. read_in g n ++ t) (reads-same f g cs same)
 insert_read f g n (suc i) [] same within = absurd (omega (arith, within))
 insert_read f g n (suc i) (c ∷ cs) same within =
-    ap₂ (λ a t. a ++ t) (same c (grind (arith, eqb_tells c c))) (insert_read f g n i cs (λ q among. same q (grind (arith, among))) (omega (arith, within)))
+    ap₂ (λ a t. a ++ t) (same c (grind (arith, eqb_tells c c)))
+    (insert_read f g n i cs (λ q among. same q (grind (arith, among))) (omega (arith, within)))
     ∙ sym (append_assoc (read_in f c) (reads_in f (take i cs)) (read_in g n ++ reads_in f (drop i cs)))
 
 pub parts_read : (f : Forest) (i : ℕ) (cs : List ℕ) → reads_in f cs ≡ reads_in f (take i cs) ++ reads_in f (drop i cs)
@@ -237,7 +244,8 @@ parts_read f (suc i) [] = refl
 parts_read f (suc i) (c ∷ cs) =
     ap (λ t. read_in f c ++ t) (parts_read f i cs) ∙ sym (append_assoc (read_in f c) (reads_in f (take i cs)) (reads_in f (drop i cs)))
 
-module _ (typed : List ℕ) (k i : ℕ) (kind : Kind) (x : Fields) (w v : Working) (sound : IsSound w) (text : text_of (Some x) ≡ typed) (there : has k w.forest ≡ true)
+module _ (typed : List ℕ) (k i : ℕ) (kind : Kind) (x : Fields) (w v : Working) (sound : IsSound w) (text : text_of (Some x) ≡ typed)
+    (there : has k w.forest ≡ true)
     (within : i ≤ size_of w.forest k)
     (b : IsPlaced w.forest v.forest k w.next_key (slice_get (children_of w.forest k) i) (label_new w kind x)) where
   h' : IsForest w.forest
@@ -267,7 +275,8 @@ module _ (typed : List ℕ) (k i : ℕ) (kind : Kind) (x : Fields) (w v : Workin
       let back : List ℕ = reads_in f (drop i cs) in
       let own : eqb k k ≡ true = grind (arith, eqb_tells k k) in
       let here : place_in f k p ≡ text_length front =
-      ap (place_along f p) (keys-level f k h' there) ∙ ap (λ t. cond t (text_length front) (text_length (said f k) + place_along f p (spread (keys_within f) cs))) own in
+      ap (place_along f p) (keys-level f k h' there) ∙ ap (λ t. cond t (text_length front)
+      (text_length (said f k) + place_along f p (spread (keys_within f) cs))) own in
       let order : children_of g k ≡ insert cs i n = b.order ∙ names_with-insert cs n i (NoRepeats-children_of f k h') within in
       let same : (q : ℕ) → is_among q cs ≡ true → read_in g q ≡ read_in f q =
       λ q among. let up = parent_here f k q h' among in read_elsewhere f g k k only_here q (has-child f q k up) (is_within-parent f q k h' up) in
@@ -282,7 +291,16 @@ module _ (typed : List ℕ) (k i : ℕ) (kind : Kind) (x : Fields) (w v : Workin
       (ap (reads_in g) order ∙ insert_read f g n i cs same within ∙ ap (λ t. reads_in f (take i cs) ++ (t ++ back)) new)
       ∙ sym (append_assoc (said f k) (reads_in f (take i cs)) (typed ++ back)) ∙ sym (append_assoc front typed back) in
       let inside : IsIn (place_in f k p) (place_in f k p) typed (read_in f k) (read_in g k) =
-      record { front = front; gone = []; back = back; old_is = old_is; now_is = now_is; start = sym here; end = ap text_length (append-nil front) ∙ sym here } in
+      record {
+        front = front;
+        gone = [];
+        back = back;
+        old_is = old_is;
+        now_is = now_is;
+        start = sym here;
+        end = ap text_length (append-nil front)
+            ∙ sym here;
+      } in
       let all : (b : ℕ) → is_within f b k ≡ true → Around (place_in f b p) (place_in f b p) typed (read_in f b) (read_in g b) =
       λ b over. around_it _ _ typed _ _ (read_above f g k k only_here p p typed refl refl inside b over) in
       record {
@@ -302,11 +320,13 @@ module _ (typed : List ℕ) (k at : ℕ) (kind : Kind) (x : Fields) (w v : Worki
       → put_by s.next_key (text_point k at) point.Text m ≡ Ok v → ReadsBetween (text_point k at) (text_point k at) typed w.forest v.forest
   by_place s m rest place o new e = elim (eqb_tells at 0) [
     | inl start ↦
-        let put : put_before_step s.next_key k m ≡ Ok v = sym (ap (λ t. cond t (put_before_step s.next_key k m) (put_behind_step s.next_key k m)) start.0) ∙ e in
+        let put : put_before_step s.next_key k m ≡ Ok v = sym
+        (ap (λ t. cond t (put_before_step s.next_key k m) (put_behind_step s.next_key k m)) start.0) ∙ e in
         ahead_around typed k at kind x w s v rest (s.next_key ∷ k ∷ []) sound place text o
         (put_ahead kind x k s m v o.stay.ready new put) start.1 refl
     | inr later ↦
-        let put : put_behind_step s.next_key k m ≡ Ok v = sym (ap (λ t. cond t (put_before_step s.next_key k m) (put_behind_step s.next_key k m)) later.0) ∙ e in
+        let put : put_behind_step s.next_key k m ≡ Ok v = sym
+        (ap (λ t. cond t (put_before_step s.next_key k m) (put_behind_step s.next_key k m)) later.0) ∙ e in
         behind_around typed k at kind x w s v rest (k ∷ s.next_key ∷ []) sound place text o
         (put_after kind x k s m v o.stay.ready new put) later.1 refl
   ]

@@ -90,7 +90,8 @@ removes_nothing p format u caret place =
 
 -- ---- one change of a text after another
 
-reads_then : (f g j : Forest) (k : ℕ) (t : TextFields) (one two : List ℕ) → text_in (label_of f k) ≡ Some t → OnlyReads k one f g → OnlyReads k two g j
+reads_then : (f g j : Forest) (k : ℕ) (t : TextFields) (one two : List ℕ) → text_in (label_of f k) ≡ Some t → OnlyReads k one f g
+    → OnlyReads k two g j
     → OnlyReads k two f j
 reads_then f g j k t one two here a b = record {
   text = λ u is.
