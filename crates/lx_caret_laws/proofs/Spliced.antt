@@ -3,14 +3,13 @@ use Rattle.lx_caret.proofs.Fit.{spliced_few, spliced}
 use Rattle.lx_caret.proofs.Lies.{text_at}
 use Rattle.lx_caret.proofs.Short.{u32-tells}
 use Rattle.lx_draft.specs.Selecting.{text_of}
-use Rattle.lx_caret.specs.Lying.{TextsAreShort}
 use Rattle.lx_caret_laws.specs.Carets.{IsSound, OnlyReads}
 use Rattle.lx_blocks.specs.Ranges.{if_normal, normal_at}
 use Rattle.lx_draft.proofs.Covered.{answered}
 use Rattle.lx_draft.proofs.Put.{both_none}
 use Rattle.lx_draft.specs.Faults.{over_limits, splice_fault, text_in}
 use Rattle.lx_draft.specs.Steps.{fields_written, label_with_piece, splice_points, splice_step, text_replaced, with_piece}
-use Rattle.lx_draft.specs.Working.{Working}
+use Rattle.lx_draft.specs.Working.{Working, TextsAreShort}
 use Rattle.lx_edit_laws.proofs.SplitCuts.{label_is}
 use Rattle.lx_edit_laws.proofs.WrapTrees.{same_spot_by}
 use Rattle.lx_forest.proofs.Lookups.{children_of-with_fields, key-label_of, label_of-with_fields, parent_of-with_fields}

@@ -1,7 +1,6 @@
 -- A split leaves the same to be read in every node but the text.
 use Rattle.lx_caret.proofs.Lies.{text_at}
 use Rattle.lx_caret.proofs.Short.{u32-tells, written-allowed}
-use Rattle.lx_caret.specs.Lying.{TextsAreShort}
 use Rattle.lx_caret_laws.proofs.ReadLevels.{read-leaf, reads-in_place, reads_by, reads_known}
 use Rattle.lx_caret_laws.specs.Reading.{read_in, reads_in, said}
 use Rattle.lx_draft.proofs.Covered.{answered}
@@ -11,7 +10,7 @@ use Rattle.lx_draft.specs.Faults.{after, over_limits, splice_fault, text_in}
 use Rattle.lx_draft.specs.Selecting.{text_of}
 use Rattle.lx_draft.specs.Steps.{made, new_step, splice_step, text_replaced}
 use Rattle.lx_draft.specs.Beside.{put_behind_step}
-use Rattle.lx_draft.specs.Working.{Working}
+use Rattle.lx_draft.specs.Working.{Working, TextsAreShort}
 use Rattle.lx_edit.proofs.Climbed.{first_part}
 use Rattle.lx_edit.specs.Conditions.{length_at}
 use Rattle.lx_edit.specs.Edits.{pointed}

@@ -7,12 +7,11 @@ use Rattle.lx_node.specs.declared.fields.TextFields.{TextFields}
 use Rattle.lx_select.specs.declared.selection.Selection.TheVariants.{Range}
 use Rattle.lx_forest.specs.Forest.{Forest}
 use Rattle.lx_forest.specs.Lookups.{spot, label_of, parent_of, children_of, IsHeld}
-use Rattle.lx_draft.specs.Working.{Working}
+use Rattle.lx_draft.specs.Working.{Working, TextsAreShort}
 use Rattle.lx_draft.specs.Covering.{IsReady}
 use Rattle.lx_draft.specs.Faults.{text_in}
 use Rattle.lx_draft.specs.Steps.{text_replaced}
 use Rattle.lx_edit.specs.Edits.{text_point}
-use Rattle.lx_caret.specs.Lying.{TextsAreShort}
 
 -- a draft as an update of a committed state has it: in order, each node holds what it may, its texts are short, and no more
 -- was written than an update may write
