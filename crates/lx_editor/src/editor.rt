@@ -141,7 +141,7 @@ impl Editor {
     }
 
     /// The view as HTML: that of the committed tree's rendering.
-    pub fn view(&self, _alloc: Global) -> Result<Txt, NoMemory>
+    pub fn view(&self) -> Result<Txt, NoMemory>
         ensures html { IfOk result (λ html. html ≡ html_of (render self.now.tree)) }
     {
         self.view.print_html()
@@ -338,7 +338,7 @@ impl Editor {
     fn show_view(&self, alloc: Global) -> Result<Vec<u8>, NoMemory>
         ensures { IfOk result (λ reply. reply.items ≡ shown_text shown.View self.now) }
     {
-        let html = self.view(alloc)?;
+        let html = self.view()?;
         write_reply(alloc, &Reply::View(html))
     }
 }

@@ -9,7 +9,7 @@ use std::alloc::Global;
 
 /// The view as HTML, and how many nodes the state has.
 pub(crate) fn view(alloc: Global, editor: &Editor) -> Result<String> {
-    let html = editor.view(alloc)?;
+    let html = editor.view()?;
     Ok(format!(in alloc; "{} {}", editor.state().links.len(), html.as_str())?)
 }
 
