@@ -8,9 +8,9 @@
 //!   nothing else (`deleting_is_exact`).
 //! * Formatting changes no character, and no node but the covered texts and their parents (`formatting_keeps_text`).
 //! * A paragraph that is inserted parts what is read in its block at the caret (`breaking_parts_text`).
-//! * All that the caret isn't in stays as it is, each time.
+//! * Where one types, deletes or inserts a paragraph, all that the caret isn't in stays as it is.
 //!
-//! Nothing is said of ranges over several texts, nor of lines that are joined.
+//! What is left where a range over several texts is removed, or where lines are joined, isn't said.
 #![tactic(auto)]
 
 mod breaking;
