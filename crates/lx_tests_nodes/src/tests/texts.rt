@@ -108,7 +108,7 @@ fn pieces_are_replaced_where_they_stand(rt: HostRuntime) -> Result<(), Fail> {
 /// The offsets that a slice and a splice of a text are refused for.
 fn refusals(alloc: Global, text: &str, from: u32, to: u32) -> (Option<u64>, Option<u64>) {
     let sliced = refused(slice(alloc, text, from, to));
-    (sliced, refused(spliced(alloc, text, from, to, "new")))
+    (sliced, refused(splice(alloc, text, from, to, "new")))
 }
 
 #[test]
