@@ -1,0 +1,13 @@
+// The module of a page that is one file: web/build/page.mjs puts it in there, by gzip and in base64.
+
+/**
+ * A response with the module that the page has in itself; nothing where lexical.wasm lies beside the page.
+ * @returns {Response | undefined}
+ */
+export function moduleHere() {
+  const packed = document.getElementById('lexical-wasm');
+  if (!packed) return undefined;
+  const bytes = Uint8Array.from(atob(packed.textContent), character => character.charCodeAt(0));
+  const unpacked = new Blob([bytes]).stream().pipeThrough(new DecompressionStream('gzip'));
+  return new Response(unpacked, { headers: { 'content-type': 'application/wasm' } });
+}
