@@ -20,7 +20,7 @@ const fromOther = /^(import|export) (\{[^}]*\}|\* as \w+|\*|\w+) from '(\.[^']+)
 const forEffect = /^import '(\.[^']+)';[^\n]*\n/gm;
 const declared = /^export ((?:async )?function\*?|class|const) (\w+)/gm;
 const listed = /^export \{([^}]*)\};[^\n]*\n/gm;
-const dynamic = /\bimport\('(\.[^']+)'\)/g;
+const dynamic = /\bawait import\('(\.[^']+)'\)/g; // types in comments have no `await`
 
 /** What a script is called in the file: names of files have no underscore. */
 const nameOf = file => `$${file.replace(/\.js$/, '').replace(/[^a-z0-9]/gi, '_')}`;
@@ -50,7 +50,7 @@ function gather(file, gathered, waiting = []) {
       return '';
     })
     .replace(forEffect, (_, path) => `${at(path) && ''}`)
-    .replace(dynamic, (_, path) => `Promise.resolve(${at(path)})`)
+    .replace(dynamic, (_, path) => at(path))
     .replace(declared, (_, word, name) => {
       answered.push(name);
       return `${word} ${name}`;
