@@ -1,0 +1,54 @@
+// A line with its reply, as it was sent: to be folded out.
+
+const LONGEST = 2000; // characters of a line, and of an operation: a load may have millions
+const MOST = 60; // operations
+
+/**
+ * @param {{ line: object, reply: object, milliseconds: number, count: number }} told
+ * @param {Document} document
+ * @param {boolean} isOpen
+ */
+export function entryOf({ line, reply, milliseconds, count }, document, isOpen) {
+  const item = document.createElement('li');
+  const details = item.appendChild(document.createElement('details'));
+  const summary = details.appendChild(document.createElement('summary'));
+  item.value = count;
+  details.open = isOpen;
+  summary.append(nameOf(line), ' ');
+  add(summary, 'span', `${outcomeOf(reply)}, ${milliseconds.toFixed(2)} ms`).className = 'inspector-details';
+  details.classList.toggle('inspector-refused', Boolean(reply.refused));
+  add(details, 'pre', shortened(JSON.stringify(line))).className = 'inspector-sent';
+  add(details, 'pre', replyText(reply)).className = 'inspector-reply';
+  return item;
+}
+
+/** What a line does, in a few words. */
+function nameOf(line) {
+  if (line.dispatch) return line.dispatch;
+  if (line.update) return `update: ${line.update.map(step => Object.keys(step)[0]).slice(0, 4).join(', ') || 'nothing'}`;
+  return Object.keys(line).find(name => name !== 'at' && name !== 'tags') ?? 'a line';
+}
+
+function outcomeOf({ commit, ops, idle, refused, gathered }) {
+  if (refused) return `refused: ${refused.cause}`;
+  if (commit !== undefined) return `commit ${commit}, ${ops.length} ${ops.length === 1 ? 'operation' : 'operations'}`;
+  if (idle) return 'nothing new';
+  return gathered === undefined ? 'taken' : `${gathered} gathered`;
+}
+
+/** The reply, with an operation to a row. */
+function replyText(reply) {
+  if (!reply.ops) return shortened(JSON.stringify(reply));
+  const { ops, ...others } = reply;
+  const rows = ops.slice(0, MOST).map(operation => shortened(JSON.stringify(operation)));
+  if (ops.length > MOST) rows.push(`… and ${ops.length - MOST} more`);
+  return [JSON.stringify(others), ...rows].join('\n');
+}
+
+const shortened = text => (text.length > LONGEST ? `${text.slice(0, LONGEST)} … ${text.length} characters` : text);
+
+function add(parent, name, text) {
+  const element = parent.appendChild(parent.ownerDocument.createElement(name));
+  element.textContent = text;
+  return element;
+}

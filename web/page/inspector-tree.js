@@ -1,0 +1,99 @@
+// The nodes of the document as a tree of lines: a key, a type, and what is in it.
+
+const MOST = 300; // lines: the rest of a long document is only counted
+
+const types = {
+  p: 'paragraph', blockquote: 'quote', ul: 'list', ol: 'list', li: 'item', a: 'link',
+  table: 'table', tr: 'row', td: 'cell', th: 'header cell', br: 'line break', hr: 'rule', div: 'embed',
+};
+
+/**
+ * The tree around what is selected.
+ * @param {import('./page.js').Page} page
+ * @param {Document} document
+ */
+export function treeOf({ view, selection }, document) {
+  const list = document.createElement('ul');
+  const selected = selectedKeys(selection);
+  const { children } = view.hosts.root;
+  const budget = { left: MOST };
+  const first = firstShown(view, children, selected);
+  if (first > 0) list.append(note(document, `${first} blocks before`));
+  let at = first;
+  for (; at < children.length && budget.left > 0; at += 1) list.append(branchOf(children[at], selected, document, budget));
+  if (at < children.length) list.append(note(document, `${children.length - at} blocks after`));
+  return list;
+}
+
+/** The block to begin with: a few before the caret where the document is long. */
+function firstShown(view, blocks, selected) {
+  if (blocks.length <= MOST / 4) return 0;
+  let [host] = [...selected.keys()].map(key => view.hosts.ofKey(key));
+  while (host?.parent?.parent) host = host.parent;
+  return Math.max(0, blocks.indexOf(host) - MOST / 10);
+}
+
+/** The keys that the selection has, each with the words to show for it. */
+function selectedKeys(selection) {
+  const keys = new Map();
+  const add = (key, words) => keys.set(key, keys.has(key) ? `${keys.get(key)}, ${words}` : words);
+  if (selection?.kind === 'range') {
+    const { anchor, focus } = selection;
+    if (String(anchor) === String(focus)) add(anchor[0], `caret at ${anchor[1]}`);
+    else {
+      add(anchor[0], `anchor at ${anchor[1]}`);
+      add(focus[0], `focus at ${focus[1]}`);
+    }
+  } else if (selection?.kind === 'cells') {
+    add(selection.anchor, 'first cell selected');
+    add(selection.focus, 'last cell selected');
+  } else selection?.keys.forEach(key => add(key, 'selected'));
+  return keys;
+}
+
+function branchOf(host, selected, document, budget) {
+  budget.left -= 1;
+  const item = document.createElement('li');
+  item.append(word(document, 'inspector-key', host.key), ' ', typeOf(host));
+  const details = detailsOf(host);
+  if (details) item.append(' ', word(document, 'inspector-details', details));
+  if (host.text !== null) item.append(' ', word(document, 'inspector-text', JSON.stringify(host.text)));
+  if (selected.has(host.key)) item.append(' ', word(document, 'inspector-caret', selected.get(host.key)));
+  const { children } = host;
+  if (children.length > 0) {
+    const list = item.appendChild(document.createElement('ul'));
+    for (const child of children) {
+      if (budget.left <= 0) break;
+      list.append(branchOf(child, selected, document, budget));
+    }
+  }
+  return item;
+}
+
+function typeOf({ tag, text }) {
+  if (text !== null) return text === '\t' ? 'tab' : 'text';
+  const outer = tag.split('>')[0];
+  return /^h[1-6]$/.test(outer) ? `heading ${outer[1]}` : types[outer] ?? outer;
+}
+
+/** Formats, where a link goes, and other attributes that tell something. */
+function detailsOf({ attributes }) {
+  const told = ['class', 'href', 'value', 'aria-checked', 'data-align', 'data-indent', 'data-src', 'colspan', 'rowspan', 'dir'];
+  return told.filter(name => attributes.has(name)).map(name => (
+    name === 'class' || name === 'href' ? attributes.get(name) : `${name.replace(/^\w+-/, '')} ${attributes.get(name)}`
+  )).join(', ');
+}
+
+function word(document, name, text) {
+  const element = document.createElement('span');
+  element.className = name;
+  element.textContent = text;
+  return element;
+}
+
+function note(document, text) {
+  const item = document.createElement('li');
+  item.className = 'inspector-note';
+  item.textContent = `… ${text}`;
+  return item;
+}

@@ -1,0 +1,81 @@
+// The core at work: the nodes with their keys, and each line with its reply and the time that it took.
+import { entryOf } from './inspector-entry.js';
+import { treeOf } from './inspector-tree.js';
+
+const MOST_LINES = 40; // more than that nobody reads, and each costs elements
+
+/**
+ * Fills an element with what the core does, while the element is shown: `hidden` opens and closes it.
+ * @param {import('./page.js').Page} page
+ * @param {HTMLElement} element
+ */
+export function inspector(page, element) {
+  const { ownerDocument: document } = element;
+  const heading = made(document, 'h2', 'The core at work');
+  const close = made(document, 'button', 'Close');
+  const numbers = made(document, 'p');
+  const nodes = made(document, 'div');
+  const lines = made(document, 'ol');
+  const header = made(document, 'header');
+  const told = []; // the latest first, for the times
+  element.classList.add('inspector');
+  element.ariaLabel = 'The core at work';
+  close.type = 'button';
+  header.append(heading, close);
+  numbers.className = 'inspector-numbers';
+  nodes.className = 'inspector-nodes';
+  lines.className = 'inspector-lines';
+  lines.reversed = true;
+  element.replaceChildren(header, numbers, made(document, 'h3', 'Nodes'), nodes, made(document, 'h3', 'Lines'), lines);
+
+  let count = 0; // of lines since the page was opened
+  let isStale = true;
+
+  page.on('told', entry => {
+    if (entry.line.show) return; // questions of the page itself
+    count += 1;
+    told.unshift({ ...entry, count });
+    told.length = Math.min(told.length, MOST_LINES);
+    isStale = true;
+  });
+  page.on('settled', () => {
+    if (!element.hidden) draw();
+  });
+  close.addEventListener('click', () => {
+    element.hidden = true;
+    page.focus();
+  });
+  new MutationObserver(() => {
+    if (!element.hidden) draw();
+  }).observe(element, { attributes: true, attributeFilter: ['hidden'] });
+
+  function draw() {
+    nodes.replaceChildren(treeOf(page, document));
+    nodes.querySelector('.inspector-caret')?.scrollIntoView({ block: 'nearest' });
+    if (!isStale) return;
+    isStale = false;
+    numbers.textContent = summary();
+    lines.start = count;
+    const isOpen = new Set([...lines.children].filter(item => item.firstChild.open).map(item => item.value));
+    lines.replaceChildren(...told.map((entry, index) => entryOf(entry, document, index === 0 || isOpen.has(entry.count))));
+  }
+
+  /** What there is in numbers. The core is asked directly, so that its answer isn't told in turn. */
+  function summary() {
+    const { history } = page.editor.line({ show: 'history' });
+    const times = told.map(({ milliseconds }) => milliseconds).sort((one, other) => one - other);
+    const median = times[Math.floor(times.length / 2)] ?? 0;
+    return `${counted(page.view.hosts.size - 1, 'node')}; ${counted(history.undo, 'act')} to undo, ${history.redo} to redo; `
+      + `${counted(count, 'line')}, the last ${told.length} in ${median.toFixed(2)} ms each at the median`;
+  }
+
+  if (!element.hidden) draw();
+}
+
+const counted = (number, word) => `${number.toLocaleString('en')} ${word}${number === 1 ? '' : 's'}`;
+
+function made(document, name, text = '') {
+  const element = document.createElement(name);
+  element.textContent = text;
+  return element;
+}
