@@ -1,0 +1,274 @@
+"""The page in headless Chromium: what a person does there, and what the page and the core say after it."""
+import contextlib
+import functools
+import http.server
+import json
+import pathlib
+import threading
+import time
+
+from selenium import webdriver
+from selenium.webdriver.common.action_chains import ActionChains
+from selenium.webdriver.common.by import By
+from selenium.webdriver.common.keys import Keys
+
+WEB = pathlib.Path(__file__).resolve().parents[2]
+
+# What disagrees: the hosts with the core's view, the page with its hosts, what the browser has selected with the core.
+FAULTS = r"""
+const [done] = arguments, { page } = window, found = [];
+(async () => {
+  const view = (await page.ask({ show: 'view' })).view, html = page.view.hosts.html();
+  if (html !== view) found.push(`the hosts are ${html}\n    the core has  ${view}`);
+  const fresh = new page.view.constructor(document.createElement('div'));
+  fresh.apply(page.view.hosts.fold());
+  const shown = page.view.element.innerHTML, drawn = fresh.element.innerHTML;
+  if (shown !== drawn) found.push(`the page has  ${shown}\n    it should be  ${drawn}`);
+  const selection = (await page.ask({ show: 'selection' })).selection;
+  const isHere = page.view.element.contains(getSelection().anchorNode);
+  const placesOf = given => given && [given.anchor, given.focus, given.table ?? null];
+  const told = JSON.stringify(placesOf(selection)), here = JSON.stringify(placesOf(page.selected));
+  if (isHere && selection && selection.kind !== 'nodes' && told !== here) {
+    found.push(`selected are ${here}, and should be ${told}`);
+  }
+})().then(() => done(found), error => done([String(error)]));
+"""
+
+# The HTML of the document, as the core writes it, but for the attributes that the page sets at its root.
+HTML = r"""
+const escaped = text => text.replace(/[&<>"]/g, c => ({ '&': '&amp;', '<': '&lt;', '>': '&gt;', '"': '&quot;' })[c]);
+function htmlOf(node) {
+  if (node.nodeType === Node.TEXT_NODE) return escaped(node.data);
+  const names = node === page.view.element ? [] : node.getAttributeNames().sort();
+  const attributes = names.map(name => ` ${name}="${escaped(node.getAttribute(name))}"`);
+  const inside = [...node.childNodes].map(htmlOf).join('');
+  const start = `<${node.localName}${attributes.join('')}>`;
+  return ['br', 'hr'].includes(node.localName) ? start : `${start}${inside}</${node.localName}>`;
+}
+return htmlOf(page.view.element);
+"""
+
+# Selects from an offset of the first text that has the words to an offset of one that has others; offsets count from
+# where the words begin.
+SELECT = r"""
+const [from, start, to, end] = arguments;
+function place(words, offset) {
+  const walker = document.createTreeWalker(page.view.element, NodeFilter.SHOW_TEXT);
+  while (walker.nextNode()) {
+    const at = walker.currentNode.data.indexOf(words);
+    if (at >= 0) return [walker.currentNode, at + offset];
+  }
+  throw new Error('no text has ' + words);
+}
+getSelection().setBaseAndExtent(...place(from, start), ...place(to, end));
+"""
+
+PASTE = r"""
+const data = new DataTransfer();
+for (const [type, text] of Object.entries(arguments[0])) data.setData(type, text);
+page.view.element.dispatchEvent(new ClipboardEvent('paste', { clipboardData: data, bubbles: true, cancelable: true }));
+"""
+
+COPY = r"""
+const data = new DataTransfer();
+page.view.element.dispatchEvent(new ClipboardEvent('copy', { clipboardData: data, bubbles: true, cancelable: true }));
+return Object.fromEntries([...data.types].map(type => [type, data.getData(type)]));
+"""
+
+# Runs before the page does: its clock goes on by what a person does, not by how long that takes.
+CLOCK = r"""
+let moment = 1700000000000;
+for (const name of ['keydown', 'mousedown']) addEventListener(name, () => { moment += 300; }, true);
+Date.now = () => moment;
+"""
+
+NOTICES = r"""
+window.notices = [];
+page.on('notice', text => notices.push(text));
+"""
+
+
+class Quiet(http.server.SimpleHTTPRequestHandler):
+    protocol_version = 'HTTP/1.1'
+    extensions_map = {**http.server.SimpleHTTPRequestHandler.extensions_map,
+                      '.js': 'text/javascript', '.wasm': 'application/wasm'}
+
+    def log_message(self, *_):
+        pass
+
+
+def served():
+    """Serves web/ to this machine: the address."""
+    handler = functools.partial(Quiet, directory=str(WEB))
+    server = http.server.ThreadingHTTPServer(('127.0.0.1', 0), handler)
+    threading.Thread(target=server.serve_forever, daemon=True).start()
+    return f'http://127.0.0.1:{server.server_port}/'
+
+
+class Page:
+    """A page in a browser of its own."""
+
+    def __init__(self, place=None, clock=False):
+        options = webdriver.ChromeOptions()
+        for word in ('--headless=new', '--disable-gpu', '--no-sandbox'):  # the last is for runs as root
+            options.add_argument(word)
+        options.set_capability('goog:loggingPrefs', {'browser': 'ALL'})
+        self.driver = webdriver.Chrome(options=options)
+        self.driver.set_window_size(1000, 800)
+        self.driver.set_script_timeout(60)
+        self.place = place or served()
+        if clock:
+            self.driver.execute_cdp_cmd('Page.addScriptToEvaluateOnNewDocument', {'source': CLOCK})
+        self.open()
+
+    def open(self):
+        self.driver.get(self.place)
+        self.ready()
+
+    def ready(self):
+        """Waits until one can type."""
+        end = time.monotonic() + 60
+        while not self.driver.execute_script('return Boolean(window.page?.view)'):  # an element has the id, too
+            if time.monotonic() > end:
+                raise TimeoutError(f'the page does not open: {self.messages()}')
+            time.sleep(0.02)
+        self.driver.execute_script(NOTICES)
+
+    def anew(self):
+        """A page with nothing in it that was kept."""
+        self.driver.execute_script('localStorage.clear(); sessionStorage.clear();'
+                                   'Object.defineProperty(Storage.prototype, "setItem", { value() {} })')
+        self.open()
+
+    def close(self):
+        self.driver.quit()
+
+    def messages(self):
+        return [entry['message'] for entry in self.driver.get_log('browser') if entry['level'] == 'SEVERE']
+
+    def ask(self, line):
+        return self.driver.execute_async_script('page.ask(arguments[0]).then(arguments[1])', line)
+
+    def rest(self):
+        """Waits until all that was done is answered and drawn."""
+        self.ask({'show': 'selection'})
+
+    def html(self):
+        return self.driver.execute_script(HTML)
+
+    def text(self):
+        """The text of each block."""
+        return self.driver.execute_script(
+            'return [...page.view.element.querySelectorAll("p, h1, h2, h3, blockquote, li")]'
+            '.filter(block => !block.querySelector("p, li")).map(block => block.textContent)')
+
+    def notices(self):
+        """What was said since this was asked last."""
+        return self.driver.execute_script('return notices.splice(0)')
+
+    def faults(self):
+        return self.driver.execute_async_script(FAULTS)
+
+    # What a person does
+
+    def keys(self, keys, pause=0.0):
+        """Chords such as `control+z`, names such as `enter`, or texts, with so many seconds after each key."""
+        chain = ActionChains(self.driver, duration=0)
+        for key in keys:
+            self.add(chain, key, pause)
+        chain.perform()
+
+    def add(self, chain, key, pause=0.0):
+        if isinstance(key, tuple):
+            chain.w3c_actions.pointer_action.move_to_location(*key)
+            chain.w3c_actions.key_action.pause()
+            chain.click()
+            chain.pause(pause)
+            return
+        *held, last = key.split('+') if len(key) > 1 and '+' in key else [key]
+        for word in held:
+            chain.key_down(getattr(Keys, word.upper()))
+        for letter in [getattr(Keys, last.upper())] if len(last) > 1 else [last]:
+            chain.key_down(letter).key_up(letter)
+        for word in held:
+            chain.key_up(getattr(Keys, word.upper()))
+        if pause:
+            chain.pause(pause)
+
+    def type(self, text, pause=0.0):
+        self.keys(list(text), pause)
+
+    def press(self, chord, times=1):
+        self.keys([chord] * times)
+
+    def select(self, start_words, start, end_words, end):
+        self.driver.execute_script(SELECT, start_words, start, end_words, end)
+
+    def caret(self, words):
+        """Puts the caret behind these words."""
+        self.select(words, len(words), words, len(words))
+
+    def insert(self, text):
+        """Text without a key press, as from a table of emoji."""
+        self.driver.execute_cdp_cmd('Input.insertText', {'text': text})
+
+    def compose(self, *stages):
+        """What an input method shows on the way, and at last inserts."""
+        for stage in stages:
+            words = {'text': stage, 'selectionStart': len(stage), 'selectionEnd': len(stage)}
+            self.driver.execute_cdp_cmd('Input.imeSetComposition', words)
+        self.driver.execute_cdp_cmd('Input.insertText', {'text': stages[-1]})
+
+    def paste(self, text='', **types):
+        """Pastes a text, and what other types have: `html='<b>a</b>'`."""
+        self.driver.execute_script(PASTE, {'text/plain': text, **{f'text/{name}': data for name, data in types.items()}})
+        self.rest()
+
+    def copied(self, *selected):
+        """Copies a selection: what the clipboard gets, by types."""
+        if selected:
+            self.select(*selected)
+        return self.driver.execute_script(COPY)
+
+    def click(self, selector, index=0, left=None):
+        """Clicks into an element of the document, or so far left of its left edge."""
+        element = self.driver.find_elements(By.CSS_SELECTOR, f'#page {selector}')[index]
+        chain = ActionChains(self.driver, duration=0)
+        if left is None:
+            chain.click(element)
+        else:
+            chain.move_to_element_with_offset(element, -int(element.size['width'] / 2) - left, 0).click()
+        chain.perform()
+
+
+@contextlib.contextmanager
+def opened(*words, **options):
+    page = Page(*words, **options)
+    try:
+        yield page
+    finally:
+        page.close()
+
+
+class Results:
+    """Counts what passed, and prints what failed."""
+
+    def __init__(self):
+        self.passed = self.failed = 0
+
+    def add(self, name, found, tell=True):
+        self.failed += bool(found)
+        self.passed += not found
+        if tell or found:
+            print(f'{"FAILED" if found else "ok"}: {name}', *found, sep='\n    ', flush=True)
+
+    def end(self, page=None):
+        """The status of the program."""
+        if page:
+            self.add('no error is in the console', page.messages(), tell=False)
+        print(f'{self.passed} passed, {self.failed} failed')
+        return 1 if self.failed else 0
+
+
+def json_of(value):
+    return json.dumps(value, ensure_ascii=False, sort_keys=True)
