@@ -241,6 +241,33 @@ class Page:
         chain.perform()
 
 
+    def click_often(self, selector, times):
+        element = self.driver.find_element(By.CSS_SELECTOR, f'#page {selector}')
+        chain = ActionChains(self.driver, duration=0).move_to_element(element)
+        for _ in range(times):
+            chain.click()
+        chain.perform()
+
+    def button(self, name):
+        """Presses what has the command in the bars or in a menu of theirs."""
+        found = self.driver.find_elements(By.CSS_SELECTOR, f'[data-command="{name}"]')
+        seen = [button for button in found if button.is_displayed()]
+        if seen:
+            seen[0].click()
+        else:
+            self.driver.execute_script('arguments[0].click()', found[0])
+        self.rest()
+
+    def act(self, line):
+        return self.driver.execute_async_script('page.act(arguments[0]).then(arguments[1])', line)
+
+    def paste_of(self, copied, behind):
+        """Pastes what the clipboard got behind some words."""
+        self.caret(behind)
+        self.driver.execute_script(PASTE, copied)
+        self.rest()
+
+
 @contextlib.contextmanager
 def opened(*words, **options):
     page = Page(*words, **options)
