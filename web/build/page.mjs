@@ -69,7 +69,8 @@ function gather(file, gathered, waiting = []) {
 function importOf(names, from) {
   if (names.startsWith('*')) return `const ${names.slice('* as '.length)} = ${from};\n`;
   if (!names.startsWith('{')) return `const ${names} = ${from}.default;\n`;
-  return `const { ${pairsOf(names).map(([name, as]) => (name === as ? name : `${name}: ${as}`)).join(', ')} } = ${from};\n`;
+  const taken = pairsOf(names).map(([name, as]) => (name === as ? name : `${name}: ${as}`));
+  return `const { ${taken.join(', ')} } = ${from};\n`;
 }
 
 /** No script may have in it what ends the element that it is in. */

@@ -25,7 +25,7 @@ export function entryOf({ line, reply, milliseconds, count }, document, isOpen) 
 /** What a line does, in a few words. */
 function nameOf(line) {
   if (line.dispatch) return line.dispatch;
-  if (line.update) return `update: ${line.update.map(step => Object.keys(step)[0]).slice(0, 4).join(', ') || 'nothing'}`;
+  if (line.update) return `update: ${line.update.slice(0, 4).map(step => Object.keys(step)[0]).join(', ')}`;
   return Object.keys(line).find(name => name !== 'at' && name !== 'tags') ?? 'a line';
 }
 

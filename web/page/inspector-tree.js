@@ -7,6 +7,9 @@ const types = {
   table: 'table', tr: 'row', td: 'cell', th: 'header cell', br: 'line break', hr: 'rule', div: 'embed',
 };
 
+const untold = new Set(['data-lexical-text', 'role', 'rel', 'target']);
+const plain = new Set(['class', 'href', 'data-src']); // the value says enough
+
 /**
  * The tree around what is selected.
  * @param {import('./page.js').Page} page
@@ -20,7 +23,9 @@ export function treeOf({ view, selection }, document) {
   const first = firstShown(view, children, selected);
   if (first > 0) list.append(note(document, `${first} blocks before`));
   let at = first;
-  for (; at < children.length && budget.left > 0; at += 1) list.append(branchOf(children[at], selected, document, budget));
+  for (; at < children.length && budget.left > 0; at += 1) {
+    list.append(branchOf(children[at], selected, document, budget));
+  }
   if (at < children.length) list.append(note(document, `${children.length - at} blocks after`));
   return list;
 }
@@ -78,10 +83,8 @@ function typeOf({ tag, text }) {
 
 /** Formats, where a link goes, and other attributes that tell something. */
 function detailsOf({ attributes }) {
-  const told = ['class', 'href', 'value', 'aria-checked', 'data-align', 'data-indent', 'data-src', 'colspan', 'rowspan', 'dir'];
-  return told.filter(name => attributes.has(name)).map(name => (
-    name === 'class' || name === 'href' ? attributes.get(name) : `${name.replace(/^\w+-/, '')} ${attributes.get(name)}`
-  )).join(', ');
+  const told = [...attributes].filter(([name]) => !untold.has(name));
+  return told.map(([name, value]) => (plain.has(name) ? value : `${name.replace(/^\w+-/, '')} ${value}`)).join(', ');
 }
 
 function word(document, name, text) {

@@ -56,8 +56,7 @@ export function inspector(page, element) {
     isStale = false;
     numbers.textContent = summary();
     lines.start = count;
-    const isOpen = new Set([...lines.children].filter(item => item.firstChild.open).map(item => item.value));
-    lines.replaceChildren(...told.map((entry, index) => entryOf(entry, document, index === 0 || isOpen.has(entry.count))));
+    lines.replaceChildren(...told.map((entry, index) => entryOf(entry, document, index === 0)));
   }
 
   /** What there is in numbers. The core is asked directly, so that its answer isn't told in turn. */
@@ -65,8 +64,12 @@ export function inspector(page, element) {
     const { history } = page.editor.line({ show: 'history' });
     const times = told.map(({ milliseconds }) => milliseconds).sort((one, other) => one - other);
     const median = times[Math.floor(times.length / 2)] ?? 0;
-    return `${counted(page.view.hosts.size - 1, 'node')}; ${counted(history.undo, 'act')} to undo, ${history.redo} to redo; `
-      + `${counted(count, 'line')}, the last ${told.length} in ${median.toFixed(2)} ms each at the median`;
+    return [
+      counted(page.view.hosts.size - 1, 'node'),
+      `history: ${history.undo} to undo, ${history.redo} to redo`,
+      `${counted(count, 'line')} since the page was opened`,
+      `${median.toFixed(2)} ms a line (median of the last ${told.length})`,
+    ].join(' · ');
   }
 
   if (!element.hidden) draw();

@@ -34,12 +34,14 @@ const [done] = arguments, { page } = window, found = [];
 })().then(() => done(found), error => done([String(error)]));
 """
 
-# The HTML of the document, as the core writes it, but for the attributes that the page sets at its root.
+# The HTML of the document, as the core writes it, but for the attributes that the page sets at its root, and for
+# `data-lexical-text`, which each text has.
 HTML = r"""
 const escaped = text => text.replace(/[&<>"]/g, c => ({ '&': '&amp;', '<': '&lt;', '>': '&gt;', '"': '&quot;' })[c]);
 function htmlOf(node) {
   if (node.nodeType === Node.TEXT_NODE) return escaped(node.data);
-  const names = node === page.view.element ? [] : node.getAttributeNames().sort();
+  const isTold = name => node !== page.view.element && name !== 'data-lexical-text';
+  const names = node.getAttributeNames().filter(isTold).sort();
   const attributes = names.map(name => ` ${name}="${escaped(node.getAttribute(name))}"`);
   const inside = [...node.childNodes].map(htmlOf).join('');
   const start = `<${node.localName}${attributes.join('')}>`;
@@ -221,7 +223,8 @@ class Page:
 
     def paste(self, text='', **types):
         """Pastes a text, and what other types have: `html='<b>a</b>'`."""
-        self.driver.execute_script(PASTE, {'text/plain': text, **{f'text/{name}': data for name, data in types.items()}})
+        others = {f'text/{name}': data for name, data in types.items()}
+        self.driver.execute_script(PASTE, {'text/plain': text, **others})
         self.rest()
 
     def copied(self, *selected):

@@ -100,7 +100,8 @@ def reloaded(page, results):
 
 
 def differences(before, after):
-    return [f'the {part} was  {before[part]}\n    and is  {after[part]}' for part in before if before[part] != after[part]]
+    changed = [part for part in before if before[part] != after[part]]
+    return [f'the {part} was  {before[part]}\n    and is  {after[part]}' for part in changed]
 
 
 def two_tabs(page, results):

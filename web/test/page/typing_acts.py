@@ -3,9 +3,9 @@
 
     web/test/page/typing_acts.py [--sessions 1] [--acts 100] [--seed 1] [--paces 10,30,90]
 
-A random session is done so often: once with a rest after each act, and once at each pace. Each time the page has to show
-what the core has, and the document has to be the same. The page's clock goes on by keys and clicks alone, so that the
-history joins the same typing at any pace.
+A random session is done so often: once with a rest after each act, and once at each pace. Each time the page has to
+show what the core has, and the document has to be the same. The page's clock goes on by keys and clicks alone, so that
+the history joins the same typing at any pace.
 """
 import argparse
 import random
