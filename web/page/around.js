@@ -1,6 +1,41 @@
 // What is around the caret, for whoever shows it.
+import { cellOf } from '../hosts-order.js';
+import { typeOf } from './blocks.js';
+import { formatOf } from './formats.js';
+import { linkOf } from './link-lines.js';
+import { blockAt, isRange, placesOf } from './ranges.js';
 
-/** @param {import('./page.js').Page} page */
+/** @type {Record<string, string>} */
+const blocks = { p: 'paragraph', blockquote: 'quote' };
+
+/**
+ * @param {import('./page.js').Page} page
+ * @returns {{
+ *   block: string | null, format: number, link: { key: number, url: string } | null, cell: boolean, align: string,
+ *   indent: number, canUndo: boolean, canRedo: boolean,
+ * }} `block` is `paragraph`, `heading-1` to `heading-6`, `quote`, `bullet`, `number` or `check`
+ */
 export function around(page) {
-  return { block: null, format: 0, link: null, cell: false, align: '', indent: 0, canUndo: false, canRedo: false };
+  const { hosts } = page.view, own = placesOf(page.selection), selection = page.selected ?? own;
+  const key = isRange(selection) ? selection.anchor[0] : selection?.anchor;
+  const host = key === undefined ? null : hosts.ofKey(key) ?? null;
+  const block = isRange(selection) && host ? blockAt(hosts, selection.anchor) : null;
+  const isOwn = JSON.stringify(selection) === JSON.stringify(own);
+  const link = linkOf(host);
+  return {
+    block: block && nameOf(block),
+    format: isOwn ? page.selection?.format ?? 0 : host ? formatOf(host) : 0,
+    link: link && { key: link.key, url: link.attributes.get('href') ?? '' },
+    cell: cellOf(host) !== null,
+    align: block?.attributes.get('data-align') ?? '',
+    indent: Number(block?.attributes.get('data-indent') ?? 0),
+    canUndo: page.history.undo > 0,
+    canRedo: page.history.redo > 0,
+  };
+}
+
+/** @param {import('../hosts.js').Host} block */
+function nameOf(block) {
+  if (block.tag === 'li') return typeOf(block.parent);
+  return blocks[block.tag] ?? `heading-${block.tag.slice(1)}`;
 }

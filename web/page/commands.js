@@ -1,11 +1,125 @@
-// Commands of the page that the core hasn't: each becomes lines that it has.
+// What a line of an act becomes. The page has commands that the core hasn't, and the core's own are meant for a range
+// in one frame: where cells are selected, or a table from its midst on, the page says what is done instead.
+import { edgeOf, indexOf, isCell } from '../hosts-order.js';
+import { aligned, blocksMade, liftedBy } from './blocks.js';
+import { cellAt, cellsIn, emptied, formatted, nextCell, tableOf, tableRemoved } from './cells.js';
+import { formatBits, formatOf } from './formats.js';
+import { linked, linksIn, unlinked } from './link-lines.js';
+import { blockAt, caretAt, isCaret, isRange, linesIn, textsIn, within } from './ranges.js';
+import { blockCommands } from './rules.js';
+
+/** @typedef {import('../hosts.js').Host} Host */
+/** @typedef {import('../hosts.js').Hosts} Hosts */
+/** @typedef {import('../lines.js').Line} Line */
+/** @typedef {import('../lines.js').Selection} Selection */
+/**
+ * Lines, and behind what they go. If the act is to be repeated once they are done, it goes on from what they have left.
+ * @typedef {{ lines: Line[], selection: Selection, isToRepeat?: boolean }} Meant
+ */
+/** @typedef {{ hosts: Hosts, selection: Selection, cells: Host[], payload: any, format: number }} Place */
+
+/** @type {Record<string, (place: Place) => { lines: Line[], isToRepeat?: boolean }>} */
+const own = {
+  'align': ({ hosts, selection, cells, payload }) => updated(aligned(linesIn(hosts, selection, cells), payload)),
+  'link': ({ hosts, selection, payload }) => ({ lines: [linked(hosts, selection, payload)] }),
+  'unlink': ({ hosts, selection }) => updated(unlinked(linksIn(hosts, selection))),
+  'clear-format': cleared,
+  'insert-rule': ({ hosts, selection }) => updated(ruleInserted(hosts, selection)),
+  'delete-table': ({ hosts, selection }) => {
+    const cell = cellAt(hosts, selection);
+    return updated(cell ? tableRemoved(tableOf(cell)) : []);
+  },
+  'next-cell': place => besideCell(place, false),
+  'previous-cell': place => besideCell(place, true),
+};
+for (const name of Object.keys(blockCommands)) {
+  own[name] = ({ hosts, selection, cells }) => blocksMade(hosts, selection, name, cells);
+}
+
+/** Commands that put something at a caret, for which there has to be a block. */
+const inserting = new Set(['insert-text', 'insert-tab', 'insert-line-break', 'paste']);
+const deleting = new Set(['remove-text', 'delete-character', 'delete-word', 'cut']);
+const ofLines = new Set(['make-list', 'remove-list', 'indent', 'outdent']);
+
+const updated = update => ({ lines: [{ update }] });
 
 /**
- * What an act is to the core: its lines, and behind what they go.
- * @param {import('./page.js').Page} page
- * @param {import('../lines.js').Line[]} lines
- * @param {import('../lines.js').Selection} selection
+ * @param {Hosts} hosts
+ * @param {Line} line
+ * @param {Selection} selected
+ * @param {number} format of what is selected
+ * @returns {Meant}
  */
-export function meantBy(page, lines, selection) {
-  return { lines, selection };
+export function meantBy(hosts, line, selected, format) {
+  const { dispatch: name, payload } = line;
+  if (name === undefined || !selected) return { lines: [line], selection: selected };
+  const selection = within(hosts, selected), cells = cellsIn(hosts, selection);
+  const place = { hosts, selection, cells, payload, format };
+  const meant = Object.hasOwn(own, name) ? own[name](place) : { lines: [ofCore(place, line)] };
+  return { ...meant, selection };
+}
+
+/** @returns {Line} what a command of the core is at a place */
+function ofCore(place, line) {
+  const { hosts, selection, cells, payload } = place, { dispatch: name } = line;
+  if (cells.length > 0) return overCells(cells, selection, line);
+  if (name === 'delete-character' && payload === 'back') {
+    const lifting = liftedBy(hosts, selection);
+    if (lifting === 'outdent') return { dispatch: 'outdent' };
+    if (lifting) return own[lifting](place).lines[0];
+  }
+  const isBetweenBlocks = isRange(selection) && inserting.has(name) && hasNoBlock(hosts, selection);
+  return isBetweenBlocks ? { update: [{ dispatch: 'insert-paragraph' }, line] } : line;
+}
+
+function hasNoBlock(hosts, selection) {
+  return blockAt(hosts, selection.anchor) === null && (isCaret(selection) || blockAt(hosts, selection.focus) === null);
+}
+
+/** A command of the core where cells are selected. */
+function overCells(cells, selection, line) {
+  const { dispatch: name, payload } = line;
+  if (deleting.has(name)) return { update: emptied(cells) };
+  if (inserting.has(name) || name === 'insert-paragraph') return { update: [...emptied(cells), line] };
+  if (name === 'format-text') return { update: formatted(cells, formatBits[payload], formatOf) };
+  if (!ofLines.has(name)) return line;
+  const steps = cells.flatMap(cell => [{ select: { anchor: edgeOf(cell, true), focus: edgeOf(cell, false) } }, line]);
+  return { update: [...steps, { select: selection }] };
+}
+
+/** All formats go: a command clears one that the first text has, and otherwise sets it in all first. */
+function cleared({ hosts, selection, cells, format }) {
+  const formats = cells.length > 0 || !isRange(selection) || isCaret(selection)
+    ? [format]
+    : textsIn(hosts, selection).map(({ host }) => formatOf(host));
+  const names = Object.keys(formatBits).filter(name => formats.some(one => one & formatBits[name]));
+  const steps = names.flatMap(name => {
+    const step = { dispatch: 'format-text', payload: name };
+    return formats[0] & formatBits[name] ? [step] : [step, step];
+  });
+  return updated(steps);
+}
+
+/** A rule goes behind the block, or in its place if that is an empty paragraph, and the caret behind the rule. */
+function ruleInserted(hosts, selection) {
+  let at = isRange(selection) ? blockAt(hosts, selection.focus) : null;
+  if (at === null) return [];
+  while (at.parent.parent !== null && !isCell(at.parent)) at = at.parent;
+  const index = indexOf(at) + 1, next = at.parent.children[index];
+  const steps = [{ new: 'horizontalrule', as: 'rule' }, { put: 'rule', into: at.parent.key, at: index }];
+  if (next && next.tag === 'p') steps.push({ select: caretAt(edgeOf(next, true)) });
+  else {
+    steps.push({ new: 'paragraph', as: 'behind' }, { put: 'behind', into: at.parent.key, at: index + 1 });
+    steps.push({ select: caretAt(['behind', 0, 'element']) });
+  }
+  if (at.tag === 'p' && at.children.length === 0) steps.push({ remove: at.key });
+  return steps;
+}
+
+/** The caret goes to another cell; behind the last one there is a new row first. */
+function besideCell({ hosts, selection }, isBack) {
+  const cell = cellAt(hosts, selection), next = cell && nextCell(cell, isBack);
+  if (next) return updated([{ select: caretAt(edgeOf(next, false)) }]);
+  if (cell === null || isBack) return { lines: [] };
+  return { lines: [{ dispatch: 'insert-row', payload: 'after' }], isToRepeat: true };
 }

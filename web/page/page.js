@@ -5,27 +5,42 @@ import { Hosts } from '../hosts.js';
 import { Lexical } from '../lexical.js';
 import { selectionIn, show } from '../selection.js';
 import { Session, carrierOf, explain } from '../session.js';
-import { listenToInput } from './input.js';
 import { guardComposing } from './composing.js';
 import { meantBy } from './commands.js';
+import { showDirections } from './directions.js';
+import { listenToInput } from './input.js';
+import { placesOf } from './ranges.js';
 import { startLines } from './rules.js';
 
 /** @typedef {import('../lines.js').Line} Line */
 /** @typedef {import('../lines.js').Selection} Selection */
 /** @typedef {import('../replies.js').Reply} Reply */
+/** @typedef {import('../replies.js').ReplySelection} ReplySelection */
 
 export class Page {
   /** Shows the core's view; `view.element` is what one types in. */
   view;
   editor;
-  /** What the core said last of what is selected: @type {import('../replies.js').ReplySelection} */
-  selection = null;
-  /** The lines by which the document came to be as it was opened, for whoever keeps a log: @type {Line[]} */
+  /**
+   * What the core said last of what is selected.
+   * @type {ReplySelection}
+   */
+  selection;
+  /** How many entries the history has. */
+  history = { undo: 0, redo: 0 };
+  /**
+   * The lines by which the document came to be as it was opened, for whoever keeps a log.
+   * @type {Line[]}
+   */
   begun = [];
   /** @type {Map<string, Set<Function>>} */
   #listeners = new Map();
   #milliseconds = new WeakMap();
   #session;
+  #turn = Promise.resolve();
+  #waiting = 0;
+  /** The browser's selection when it was looked at last, as JSON. */
+  #seen = 'null';
 
   /**
    * Opens an editor, answers the lines of a log, if there is one, or else the start lines, and shows what comes of it.
@@ -36,19 +51,22 @@ export class Page {
     return new Page(element, await Lexical.open(source), log, now);
   }
 
-  /** @private: `Page.open` opens one */
+  /** Use `Page.open`. */
   constructor(element, editor, log, now) {
     this.editor = editor;
     this.view = new View(element, { hosts: this.#hostsAfter(log, now) });
     Object.assign(this.view.element, { contentEditable: 'true', role: 'textbox', ariaMultiLine: 'true' });
     this.view.element.ariaLabel = 'Document';
+    showDirections(this.view);
     this.selection = editor.line({ show: 'selection' }).selection;
+    this.history = editor.line({ show: 'history' }).history;
     this.#session = new Session(carrierOf({ line: line => this.#answer(line) }), {
       now,
       onReply: (reply, line) => this.#learn(reply, line),
     });
     guardComposing(this);
     listenToInput(this);
+    element.ownerDocument.addEventListener('selectionchange', () => this.#look());
   }
 
   /** What the browser has selected in the document, as a step `select` takes it; null where that is elsewhere. */
@@ -57,25 +75,31 @@ export class Page {
     return browser && selectionIn(this.view, browser);
   }
 
+  /** Whether an act waits or is under way. */
+  get isBusy() {
+    return this.#waiting > 0;
+  }
+
   /**
-   * Has lines answered in their turn, behind what is selected. A line may dispatch a command of commands.js too. What is
-   * refused becomes a notice.
+   * Has lines answered in their turn, behind what is selected; each may dispatch a command of commands.js too. A line
+   * that is refused becomes a notice, and those behind it in the act aren't sent.
    * @param {Line | readonly Line[]} lines
-   * @param {Selection} [selected] without it the core's own selection is meant
-   * @returns {Promise<Reply[]>}
+   * @param {Selection} [selected] what the browser has selected if left out; null for what the core has
+   * @returns {Promise<Reply[]>} a reply for each line that was sent
    */
-  async act(lines, selected = this.selected) {
-    const { lines: meant, selection } = meantBy(this, [lines].flat(), selected);
-    let replies = [];
+  async act(lines, selected = this.#newlySelected()) {
+    this.#waiting += 1;
+    const done = this.#turn.then(() => this.#perform([lines].flat(), selected));
+    this.#turn = done.catch(() => {});
     try {
-      replies = await this.#session.do(meant, selection);
-      const refused = replies.find(reply => reply.refused)?.refused;
-      if (refused) this.notify(explain(refused));
+      return await done;
     } catch (error) {
       this.notify(error.code === 'broken' ? 'The editor has stopped. Open the page again.' : error.message);
+      throw error;
+    } finally {
+      this.#waiting -= 1;
+      if (!this.isBusy) this.#settle();
     }
-    if (!this.#session.isBusy) this.#settle();
-    return replies;
   }
 
   /**
@@ -92,7 +116,7 @@ export class Page {
    * Calls a listener at each event of a name, until the function that is returned is called:
    * - `told`, with `{ line, reply, milliseconds }`: a line was answered; those of `begun` aren't told;
    * - `changing` and `changed`: right before and after the view follows a commit;
-   * - `settled`: no act waits, and the selection is shown again;
+   * - `settled`: no act waits, and the selection is shown; or the reader has selected something else;
    * - `notice`, with a sentence for the reader.
    * @param {string} name
    * @param {Function} listener
@@ -126,6 +150,35 @@ export class Page {
     return hosts;
   }
 
+  /** While acts wait, the browser still shows what was selected before them: that isn't selected again. */
+  #newlySelected() {
+    const selected = this.selected, seen = JSON.stringify(selected);
+    const isOld = this.isBusy && seen === this.#seen;
+    this.#seen = seen;
+    return isOld ? null : selected;
+  }
+
+  async #perform(lines, selected) {
+    const replies = [];
+    for (const [index, line] of lines.entries()) {
+      const reply = await this.#do(line, index === 0 ? selected : null);
+      replies.push(reply);
+      if (!reply.refused) continue;
+      this.notify(explain(reply.refused));
+      break;
+    }
+    return replies;
+  }
+
+  async #do(line, selected, isRepeated = false) {
+    const { hosts } = this.view, format = this.selection?.format ?? 0;
+    const { lines, selection, isToRepeat } = meantBy(hosts, line, selected ?? placesOf(this.selection), format);
+    const merged = isRepeated ? lines.map(one => ({ tags: ['history-merge'], ...one })) : lines;
+    const replies = await this.#session.do(merged, selection);
+    const reply = replies.find(({ refused }) => refused) ?? replies.at(-1) ?? { idle: true };
+    return isToRepeat && !isRepeated && !reply.refused ? this.#do(line, null, true) : reply;
+  }
+
   #answer(line) {
     const start = performance.now();
     const reply = this.editor.line(line);
@@ -137,6 +190,7 @@ export class Page {
     if (reply.ops) {
       this.#emit('changing');
       this.view.apply(reply.ops);
+      showDirections(this.view, reply.ops);
       this.#emit('changed');
     }
     if (reply.selection !== undefined) this.selection = reply.selection;
@@ -145,6 +199,17 @@ export class Page {
 
   #settle() {
     show(this.view, this.selection);
+    this.#seen = JSON.stringify(this.selected);
+    this.history = this.editor.line({ show: 'history' }).history;
+    this.#emit('settled');
+  }
+
+  /** The browser has something else selected, if no act has done that. */
+  #look() {
+    if (this.isBusy) return;
+    const seen = JSON.stringify(this.selected);
+    if (seen === this.#seen) return;
+    this.#seen = seen;
     this.#emit('settled');
   }
 

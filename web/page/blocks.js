@@ -1,0 +1,131 @@
+// The types of blocks: paragraphs, headings, quotes. All selected lines are made one, and items leave their lists.
+import { indexOf, isList } from '../hosts-order.js';
+import { blockAt, isAtStart, isCaret, linesIn } from './ranges.js';
+import { blockCommands } from './rules.js';
+
+/** @typedef {import('../hosts.js').Host} Host */
+/** @typedef {import('../hosts.js').Hosts} Hosts */
+/** @typedef {import('../lines.js').Line} Line */
+/** @typedef {import('../lines.js').Step} Step */
+/** @typedef {import('../lines.js').Selection} Selection */
+
+const isItem = host => host.tag === 'li';
+
+/** How many lists are around an item. */
+function depthOf(item) {
+  let depth = 0;
+  for (let at = item; at.tag === 'li' || isList(at); at = at.parent) depth += isItem(at) ? 1 : 0;
+  return depth;
+}
+
+/**
+ * The fields that a block of another type takes over, as its host shows them.
+ * @param {Host} host
+ */
+export function fieldsOf({ attributes }) {
+  const fields = {};
+  if (attributes.has('data-align')) fields.format = attributes.get('data-align');
+  if (attributes.has('data-indent')) fields.indent = Number(attributes.get('data-indent'));
+  if (attributes.has('dir')) fields.direction = attributes.get('dir');
+  return fields;
+}
+
+/**
+ * The lines that make all selected lines blocks of a type. Items that are below others are outdented first, by a line
+ * of its own; the command is repeated after that.
+ * @param {Hosts} hosts
+ * @param {Selection} selection
+ * @param {string} name one of `blockCommands`
+ * @param {Host[]} cells
+ * @returns {{ lines: Line[], isToRepeat: boolean }}
+ */
+export function blocksMade(hosts, selection, name, cells) {
+  const blocks = linesIn(hosts, selection, cells);
+  const deepest = Math.max(0, ...blocks.filter(isItem).map(depthOf));
+  if (deepest > 1) return { lines: [{ update: Array(deepest - 1).fill({ dispatch: 'outdent' }) }], isToRepeat: true };
+  const [block] = blocks;
+  const isPlain = blocks.length === 1 && !isItem(block) && Object.keys(fieldsOf(block)).length === 0;
+  if (isPlain && cells.length === 0) return { lines: [{ dispatch: name }], isToRepeat: false };
+  const { new: type, fields = {} } = blockCommands[name];
+  const made = (host, as) => ({ new: type, fields: { ...fieldsOf(host), ...fields }, as });
+  return { lines: [{ update: stepsFor(blocks, made) }], isToRepeat: false };
+}
+
+/**
+ * @param {Host[]} blocks
+ * @param {(host: Host, as: string) => Step} made the step that makes what takes a block's place
+ * @returns {Step[]}
+ */
+function stepsFor(blocks, made) {
+  const steps = [], lists = new Set(blocks.filter(isItem).map(({ parent }) => parent));
+  blocks.forEach((block, index) => {
+    const name = `block-${index}`;
+    if (isItem(block)) return;
+    steps.push(made(block, name), { replace: block.key, with: name, keep: true });
+  });
+  for (const list of lists) steps.push(...parted(list, new Set(blocks), made));
+  return steps;
+}
+
+/**
+ * The steps by which items leave their list, which ends before the first of them. Others behind that go to lists like
+ * it. What is left empty is removed.
+ * @param {Host} list
+ * @param {Set<Host>} leaving
+ * @param {(host: Host, as: string) => Step} made
+ * @returns {Step[]}
+ */
+function parted(list, leaving, made) {
+  const steps = [], items = list.children, parent = list.parent;
+  const first = items.findIndex(item => leaving.has(item));
+  let at = indexOf(list) + 1, rest = null;
+  items.slice(first).forEach((item, index) => {
+    const name = `item-${item.key}`;
+    if (leaving.has(item)) {
+      rest = null;
+      steps.push(made(item, name), { put: name, into: parent.key, at: at++ }, { children: item.key, into: name });
+      return;
+    }
+    if (rest === null) {
+      rest = `list-${list.key}-${index}`;
+      steps.push({ new: 'list', fields: { listType: typeOf(list), ...fieldsOf(list) }, as: rest });
+      steps.push({ put: rest, into: parent.key, at: at++ });
+    }
+    steps.push({ put: item.key, into: rest });
+  });
+  return [...steps, ...items.filter(item => leaving.has(item)).map(({ key }) => ({ remove: key }))];
+}
+
+/** @param {Host} list */
+export function typeOf(list) {
+  if (list.tag === 'ol') return 'number';
+  return list.children.some(({ attributes }) => attributes.get('role') === 'checkbox') ? 'check' : 'bullet';
+}
+
+/**
+ * What Backspace does at the start of a block, if it is more than to join the block with the one before: the name of a
+ * command, or null.
+ * @param {Hosts} hosts
+ * @param {Selection} selection
+ */
+export function liftedBy(hosts, selection) {
+  if (!isCaret(selection)) return null;
+  const block = blockAt(hosts, selection.anchor);
+  if (block === null || !isAtStart(hosts, selection.anchor, block)) return null;
+  if (block.attributes.has('data-indent')) return 'outdent';
+  if (isItem(block)) {
+    if (indexOf(block) > 0) return null;
+    return isItem(block.parent.parent) ? 'outdent' : 'block-paragraph';
+  }
+  return block.tag === 'p' ? null : 'block-paragraph';
+}
+
+/**
+ * The steps that align all selected lines.
+ * @param {Host[]} blocks
+ * @param {string} format
+ * @returns {Step[]}
+ */
+export function aligned(blocks, format) {
+  return blocks.map(({ key }) => ({ set: key, fields: { format } }));
+}

@@ -1,0 +1,130 @@
+// Cells of a table: those that are selected, what they lose, and the next one.
+import { cellOf, edgeOf, indexOf, isCell, nearest } from '../hosts-order.js';
+import { below, caretAt, isRange } from './ranges.js';
+
+/** @typedef {import('../hosts.js').Host} Host */
+/** @typedef {import('../hosts.js').Hosts} Hosts */
+/** @typedef {import('../lines.js').Line} Line */
+/** @typedef {import('../lines.js').Step} Step */
+/** @typedef {import('../lines.js').Selection} Selection */
+/**
+ * A cell, with its first and last row and column.
+ * @typedef {{ cell: Host, top: number, left: number, bottom: number, right: number }} Area
+ */
+
+/** The table around a host, or null. */
+export const tableOf = host => nearest(host, ({ tag }) => tag === 'table');
+
+/**
+ * Where each cell of a table stands, in document order. docs/TABLES.md says how the grid is filled.
+ * @param {Host} table
+ * @returns {Area[]}
+ */
+export function areasOf(table) {
+  const rows = table.children, areas = [], taken = rows.map(() => []);
+  rows.forEach((row, top) => {
+    for (const cell of row.children) {
+      const span = name => Number(cell.attributes.get(name) ?? 1);
+      const width = span('colspan'), bottom = Math.min(top + span('rowspan'), rows.length) - 1;
+      let left = 0;
+      while (taken[top].slice(left, left + width).some(Boolean)) left += 1;
+      for (let at = top; at <= bottom; at += 1) for (let of = left; of < left + width; of += 1) taken[at][of] = true;
+      areas.push({ cell, top, left, bottom, right: left + width - 1 });
+    }
+  });
+  return areas;
+}
+
+/**
+ * The cells that are selected: those of the least rectangle that crosses no cell.
+ * @param {Hosts} hosts
+ * @param {Selection} selection
+ * @returns {Host[]}
+ */
+export function cellsIn(hosts, selection) {
+  const table = selection?.table === undefined ? undefined : hosts.ofKey(selection.table);
+  if (!table) return [];
+  const areas = areasOf(table);
+  const ends = areas.filter(({ cell }) => cell.key === selection.anchor || cell.key === selection.focus);
+  let around = null, inside = ends;
+  for (let count = 0; inside.length !== count;) { // it grows until no cell stands across its edge
+    count = inside.length;
+    around = rectangleOf(inside);
+    inside = areas.filter(area => meets(area, around));
+  }
+  return inside.map(({ cell }) => cell);
+}
+
+const rectangleOf = areas => ({
+  top: Math.min(...areas.map(({ top }) => top)),
+  left: Math.min(...areas.map(({ left }) => left)),
+  bottom: Math.max(...areas.map(({ bottom }) => bottom)),
+  right: Math.max(...areas.map(({ right }) => right)),
+});
+
+const meets = (one, other) => one.top <= other.bottom && other.top <= one.bottom &&
+  one.left <= other.right && other.left <= one.right;
+
+/**
+ * The steps that empty cells, and put the caret into the first.
+ * @param {Host[]} cells
+ * @returns {Step[]}
+ */
+export function emptied(cells) {
+  const steps = cells.flatMap((cell, index) => [
+    { new: 'paragraph', as: `cell-${index}` },
+    { put: `cell-${index}`, into: cell.key, at: 0 },
+  ]);
+  const start = ['cell-0', 0, 'element'];
+  steps.push({ select: caretAt(start) });
+  return [...steps, ...cells.flatMap(cell => cell.children.map(({ key }) => ({ remove: key })))];
+}
+
+/**
+ * The steps that give the texts of cells a format, or take it from them where the first has it.
+ * @param {Host[]} cells
+ * @param {number} bit
+ * @param {(host: Host) => number} formatOf
+ * @returns {Step[]}
+ */
+export function formatted(cells, bit, formatOf) {
+  const texts = cells.flatMap(cell => [...below(cell, ({ text }) => text !== null)]);
+  const isToClear = texts.length > 0 && (formatOf(texts[0]) & bit) !== 0;
+  return texts.map(host => ({
+    set: host.key,
+    fields: { format: isToClear ? formatOf(host) & ~bit : formatOf(host) | bit },
+  }));
+}
+
+/**
+ * The cell that Tab goes to from another one, or Shift and Tab; undefined where there is none.
+ * @param {Host} cell
+ * @param {boolean} isBack
+ * @returns {Host | undefined}
+ */
+export function nextCell(cell, isBack) {
+  const cells = [...below(tableOf(cell), isCell)];
+  return cells[cells.indexOf(cell) + (isBack ? -1 : 1)];
+}
+
+/**
+ * The cell that a selection is in, or that it ends in.
+ * @param {Hosts} hosts
+ * @param {Selection} selection
+ */
+export function cellAt(hosts, selection) {
+  if (!selection || selection.keys) return null;
+  return cellOf(hosts.ofKey(isRange(selection) ? selection.focus[0] : selection.focus) ?? null);
+}
+
+/**
+ * The steps that remove a table. The caret goes in front of what is behind it, or behind what is before it.
+ * @param {Host} table
+ * @returns {Step[]}
+ */
+export function tableRemoved(table) {
+  const { children } = table.parent, at = indexOf(table);
+  const next = children[at + 1], before = children[at - 1];
+  const point = next ? edgeOf(next, true) : before ? edgeOf(before, false) : null;
+  return [{ select: point && caretAt(point) }, { remove: table.key }];
+}
