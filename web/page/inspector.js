@@ -11,22 +11,24 @@ const MOST_LINES = 40; // more than that nobody reads, and each costs elements
  */
 export function inspector(page, element) {
   const { ownerDocument: document } = element;
-  const heading = made(document, 'h2', 'The core at work');
   const close = made(document, 'button', 'Close');
+  const header = made(document, 'header', made(document, 'h2', 'The core at work'), close);
   const numbers = made(document, 'p');
   const nodes = made(document, 'div');
   const lines = made(document, 'ol');
-  const header = made(document, 'header');
+  const parts = made(document, 'div',
+    made(document, 'section', made(document, 'h3', 'Nodes'), nodes),
+    made(document, 'section', made(document, 'h3', 'Lines, the latest first'), lines));
   const told = []; // the latest first, for the times
   element.classList.add('inspector');
   element.ariaLabel = 'The core at work';
   close.type = 'button';
-  header.append(heading, close);
   numbers.className = 'inspector-numbers';
   nodes.className = 'inspector-nodes';
   lines.className = 'inspector-lines';
   lines.reversed = true;
-  element.replaceChildren(header, numbers, made(document, 'h3', 'Nodes'), nodes, made(document, 'h3', 'Lines'), lines);
+  parts.className = 'inspector-parts';
+  element.replaceChildren(header, numbers, parts);
 
   let count = 0; // of lines since the page was opened
   let isStale = true;
@@ -77,8 +79,8 @@ export function inspector(page, element) {
 
 const counted = (number, word) => `${number.toLocaleString('en')} ${word}${number === 1 ? '' : 's'}`;
 
-function made(document, name, text = '') {
+function made(document, name, ...inside) {
   const element = document.createElement(name);
-  element.textContent = text;
+  element.append(...inside);
   return element;
 }
