@@ -1,0 +1,168 @@
+// Copying, cutting and pasting. What is selected goes to the clipboard three times: as the core's slice, for this page;
+// as HTML, for mails and word processors; and as plain text.
+import { ContentError } from '../content-error.js';
+import { edgeOf, isBefore } from '../hosts-order.js';
+import { htmlFromDocument, sliceFromHtml } from '../html.js';
+import { cellsIn } from './cells.js';
+import { sliceOfCells, stepsIntoCells } from './copied-cells.js';
+import { blockAt, caretAt, isCaret, placesOf } from './ranges.js';
+import { isEmpty, stepsOfSlice, stepsOfText, textOf } from './slices.js';
+
+/** @typedef {import('./page.js').Page} Page */
+/** @typedef {import('../hosts.js').Hosts} Hosts */
+/** @typedef {import('../replies.js').Slice} Slice */
+/** @typedef {import('../lines.js').Selection} Selection */
+/** @typedef {import('../lines.js').Step} Step */
+/** @typedef {import('../replies.js').ReplyPoint} ReplyPoint */
+/** @typedef {{ slice?: Slice, text?: string }} Content */
+
+/** The type under which a slice is on the clipboard. Browsers pass it on to their own pages. */
+export const sliceType = 'application/x-vaultsatin+json';
+
+/** @param {Page} page */
+export function clipboard(page) {
+  const { element } = page.view;
+  const { ownerDocument } = element;
+  for (const name of ['copy', 'cut', 'dragstart']) {
+    // Tells the core what is selected. The promises of this act are kept before the browser calls the next listener.
+    ownerDocument.addEventListener(name, event => { if (isWithin(page, event)) page.act([]); }, true);
+  }
+  element.addEventListener('copy', event => { put(page, event.clipboardData, event); });
+  element.addEventListener('cut', event => {
+    if (put(page, event.clipboardData, event)) page.act({ dispatch: 'cut' });
+  });
+  element.addEventListener('paste', event => {
+    event.preventDefault();
+    const content = contentOf(page, event.clipboardData);
+    if (content !== null) insert(page, content);
+  });
+}
+
+/**
+ * @param {Page} page
+ * @param {Event} event
+ */
+function isWithin(page, { target }) {
+  return target instanceof Node && page.view.element.contains(target);
+}
+
+/**
+ * Puts what is selected on the clipboard, or into what is dragged: whether anything is.
+ * @param {Page} page
+ * @param {DataTransfer | null} data
+ * @param {Event} [event]
+ */
+export function put(page, data, event) {
+  const slice = sliceNow(page);
+  if (slice === null || data === null) return false;
+  event?.preventDefault();
+  data.setData(sliceType, JSON.stringify(slice));
+  data.setData('text/html', htmlFromDocument(slice));
+  data.setData('text/plain', textOf(slice.nodes));
+  return true;
+}
+
+/**
+ * What is selected, as a slice; null if nothing is.
+ * @param {Page} page
+ * @returns {Slice | null}
+ */
+function sliceNow(page) {
+  const { editor, selected } = page;
+  if (selected === null) return null;
+  if (selected.table !== undefined) {
+    return sliceOfCells(page.view.hosts, editor.line({ show: 'state' }).state, /** @type {any} */ (selected));
+  }
+  const had = page.selection;
+  if (isSame(selected, had)) return editor.line({ show: 'slice' }).slice;
+  // A script has asked for the copy, so the promise of the act is still to be kept.
+  editor.line({ update: [{ select: selected }] });
+  const { slice } = editor.line({ show: 'slice' });
+  editor.line({ update: [{ select: placesOf(had) }] });
+  return slice;
+}
+
+/**
+ * @param {Selection} selected
+ * @param {import('../replies.js').ReplySelection} told
+ */
+function isSame(selected, told) {
+  return told?.kind === 'range' && String([selected?.anchor, selected?.focus]) === String([told.anchor, told.focus]);
+}
+
+/**
+ * What is on a clipboard or dropped, at its best: a slice of this page, HTML as a slice, or plain text. Null, with a
+ * notice, where there is nothing for the page.
+ * @param {Page} page
+ * @param {DataTransfer | null} data
+ * @returns {Content | null}
+ */
+export function contentOf(page, data) {
+  if (data === null) return null;
+  const slice = sliceIn(page, data);
+  if (slice !== null) return { slice };
+  const text = data.getData('text/plain');
+  if (text !== '') return { text };
+  page.notify(nothingIn(data));
+  return null;
+}
+
+/** @param {DataTransfer} data */
+function nothingIn({ files }) {
+  if (files.length === 0) return 'There is no text to insert.';
+  const arePictures = Array.from(files).every(file => file.type.startsWith('image/'));
+  return arePictures ? 'Pictures can’t be put into a document here.' : 'Drop a file onto the page to open it.';
+}
+
+/**
+ * Inserts content in the place of what is selected, as one entry of the history.
+ * @param {Page} page
+ * @param {Content} content
+ * @param {Selection} [selected]
+ * @param {string[]} [tags]
+ */
+export async function insert(page, content, selected = page.selected, tags = []) {
+  const isCut = selected !== null && !isCaret(selected);
+  if (isCut) {
+    const [cut] = await page.act({ dispatch: 'remove-text' }, selected);
+    if (cut?.refused) return;
+  }
+  const at = isCut ? placesOf(page.selection) : selected;
+  const steps = stepsFor(page.view.hosts, content, at);
+  const [reply] = await page.act({ update: steps, tags: isCut ? ['history-merge'] : tags }, at);
+  if (reply?.refused && isCut) await page.act({ dispatch: 'undo' }); // nothing goes where nothing comes
+}
+
+/**
+ * The steps that insert content at a caret, or at cells that are selected.
+ * @param {Hosts} hosts
+ * @param {Content} content
+ * @param {Selection} at
+ * @returns {Step[]}
+ */
+export function stepsFor(hosts, { slice, text = '' }, at) {
+  const cells = slice && stepsIntoCells(hosts, slice, at);
+  if (cells) return cells;
+  if (at?.table !== undefined) {
+    const [first] = cellsIn(hosts, at);
+    const caret = caretAt(edgeOf(first, true));
+    return [{ select: caret }, ...stepsFor(hosts, { slice, text }, caret)];
+  }
+  return slice ? stepsOfSlice(slice, placeAround(hosts, at)) : stepsOfText(text);
+}
+
+/**
+ * What is around a caret.
+ * @param {Hosts} hosts
+ * @param {Selection} caret
+ */
+function placeAround(hosts, caret) {
+  const point = /** @type {ReplyPoint | undefined} */ (caret?.anchor);
+  const block = point === undefined ? null : blockAt(hosts, point);
+  if (!point || block === null) return { hasBefore: false, hasBehind: false, isItem: false };
+  return {
+    hasBefore: isBefore(hosts, edgeOf(block, true), point),
+    hasBehind: isBefore(hosts, point, edgeOf(block, false)),
+    isItem: block.tag === 'li',
+  };
+}
