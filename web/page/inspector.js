@@ -5,14 +5,13 @@ import { treeOf } from './inspector-tree.js';
 const MOST_LINES = 40; // more than that nobody reads, and each costs elements
 
 /**
- * Fills an element with what the core does, while the element is shown: `hidden` opens and closes it.
+ * Fills an element with what the core does, and puts a button in front of it that opens and closes it.
  * @param {import('./page.js').Page} page
  * @param {HTMLElement} element
  */
 export function inspector(page, element) {
   const { ownerDocument: document } = element;
-  const close = made(document, 'button', 'Close');
-  const header = made(document, 'header', made(document, 'h2', 'The core at work'), close);
+  const button = made(document, 'button', 'The core at work');
   const numbers = made(document, 'p');
   const nodes = made(document, 'div');
   const lines = made(document, 'ol');
@@ -22,13 +21,16 @@ export function inspector(page, element) {
   const told = []; // the latest first, for the times
   element.classList.add('inspector');
   element.ariaLabel = 'The core at work';
-  close.type = 'button';
+  button.type = 'button';
+  button.className = 'inspector-button';
+  button.ariaExpanded = String(!element.hidden);
   numbers.className = 'inspector-numbers';
   nodes.className = 'inspector-nodes';
   lines.className = 'inspector-lines';
   lines.reversed = true;
   parts.className = 'inspector-parts';
-  element.replaceChildren(header, numbers, parts);
+  element.replaceChildren(numbers, parts);
+  element.before(button);
 
   let count = 0; // of lines since the page was opened
   let isStale = true;
@@ -43,13 +45,14 @@ export function inspector(page, element) {
   page.on('settled', () => {
     if (!element.hidden) draw();
   });
-  close.addEventListener('click', () => {
-    element.hidden = true;
-    page.focus();
+  button.addEventListener('mousedown', event => event.preventDefault()); // what is selected stays so
+  button.addEventListener('click', () => {
+    element.hidden = !element.hidden;
+    button.ariaExpanded = String(!element.hidden);
+    if (element.hidden) return;
+    draw();
+    element.scrollIntoView({ block: 'nearest' });
   });
-  new MutationObserver(() => {
-    if (!element.hidden) draw();
-  }).observe(element, { attributes: true, attributeFilter: ['hidden'] });
 
   function draw() {
     nodes.replaceChildren(treeOf(page, document));
