@@ -1,24 +1,121 @@
-// What a person does with keys and the browser's own commands, as lines.
+// What a person does with keys, the mouse, and the browser's own commands, as acts.
+import { selectionIn } from '../selection.js';
+import { cellAt } from './cells.js';
+import { enter, type } from './markdown-typing.js';
+import { blockAt, isRange, linesIn } from './ranges.js';
+
+/** @typedef {import('./page.js').Page} Page */
 
 const command = (name, payload) => payload === undefined ? { dispatch: name } : { dispatch: name, payload };
 
+/** What the browser would do, by the names of input events. */
 const commands = {
-  insertParagraph: command('insert-paragraph'),
   insertLineBreak: command('insert-line-break'),
+  insertHorizontalRule: command('insert-rule'),
+  insertUnorderedList: command('make-list', 'bullet'),
+  insertOrderedList: command('make-list', 'number'),
   deleteContentBackward: command('delete-character', 'back'),
   deleteContentForward: command('delete-character', 'forward'),
   deleteWordBackward: command('delete-word', 'back'),
   deleteWordForward: command('delete-word', 'forward'),
+  deleteByCut: command('cut'),
+  formatBold: command('format-text', 'bold'),
+  formatItalic: command('format-text', 'italic'),
+  formatUnderline: command('format-text', 'underline'),
+  formatStrikeThrough: command('format-text', 'strikethrough'),
+  formatSubscript: command('format-text', 'subscript'),
+  formatSuperscript: command('format-text', 'superscript'),
+  formatRemove: command('clear-format'),
+  formatIndent: command('indent'),
+  formatOutdent: command('outdent'),
+  formatJustifyLeft: command('align', 'left'),
+  formatJustifyCenter: command('align', 'center'),
+  formatJustifyRight: command('align', 'right'),
+  formatJustifyFull: command('align', 'justify'),
   historyUndo: command('undo'),
   historyRedo: command('redo'),
 };
 
-/** @param {import('./page.js').Page} page */
+/** Browsers have no event of their own for these: their own list of what can be undone stays empty here. */
+const keys = {
+  'Mod+a': command('select-all'),
+  'Mod+z': command('undo'),
+  'Mod+y': command('redo'),
+  'Mod+Shift+z': command('redo'),
+};
+
+/** @param {Page} page */
 export function listenToInput(page) {
-  page.view.element.addEventListener('beforeinput', event => {
-    if (event.inputType === 'insertCompositionText' || event.defaultPrevented) return;
+  const { element } = page.view;
+  let isTabFree = false; // Escape lets the next Tab leave the document, for those who have no mouse
+  element.addEventListener('beforeinput', event => {
+    if (event.isComposing || event.inputType.includes('Composition')) return; // see composing.js
     event.preventDefault();
-    if (event.inputType === 'insertText') page.act(command('insert-text', event.data));
-    else if (commands[event.inputType]) page.act(commands[event.inputType]);
+    input(page, event);
   });
+  element.addEventListener('keydown', event => {
+    if (event.isComposing || event.defaultPrevented || event.altKey) return;
+    const isMod = event.ctrlKey || event.metaKey;
+    const isToLeave = isTabFree && event.key === 'Tab';
+    if (event.key !== 'Shift') isTabFree = event.key === 'Escape';
+    const held = (isMod ? 'Mod+' : '') + (event.shiftKey ? 'Shift+' : '');
+    const line = event.key === 'Tab' && !isMod && !isToLeave
+      ? tabbed(page, event.shiftKey)
+      : keys[held + event.key.toLowerCase()];
+    if (!line) return;
+    event.preventDefault();
+    page.act(line);
+  });
+  element.addEventListener('mousedown', event => {
+    if (itemOfMark(page, event)) event.preventDefault(); // the caret stays where it is
+  });
+  element.addEventListener('click', event => clicked(page, event));
+}
+
+/** @param {InputEvent} event */
+function input(page, event) {
+  const { inputType } = event, text = event.data ?? event.dataTransfer?.getData('text/plain') ?? '';
+  if (inputType === 'insertText') return type(page, text);
+  if (inputType === 'insertParagraph') return enter(page);
+  if (commands[inputType]) return page.act(commands[inputType]);
+  // A word of the spelling checker, or all to the end of a line on the screen: the browser says what is meant.
+  const selected = targetOf(page, event) ?? page.selected;
+  if (inputType.startsWith('delete')) return page.act(command('remove-text'), selected);
+  if (inputType.startsWith('insert') && text !== '') return page.act(command('insert-text', text), selected);
+  return page.notify('This can’t be done here.');
+}
+
+function targetOf(page, event) {
+  const [range] = event.getTargetRanges();
+  if (!range) return null;
+  const { startContainer, startOffset, endContainer, endOffset } = range;
+  return selectionIn(page.view, {
+    anchorNode: startContainer, anchorOffset: startOffset, focusNode: endContainer, focusOffset: endOffset,
+  });
+}
+
+/** In items, and where several lines are selected, Tab moves a level; in a table to the next cell; else it is typed. */
+function tabbed(page, isBack) {
+  const { hosts } = page.view, { selected } = page;
+  const isItem = isRange(selected) && blockAt(hosts, selected.anchor)?.tag === 'li';
+  if (!isItem && cellAt(hosts, selected)) return command(isBack ? 'previous-cell' : 'next-cell');
+  const isMoved = isItem || isBack || (isRange(selected) && linesIn(hosts, selected).length > 1);
+  return isMoved ? command(isBack ? 'outdent' : 'indent') : command('insert-tab');
+}
+
+/** The item whose check mark is clicked, or null: the mark stands beside the item. */
+function itemOfMark(page, { target, offsetX }) {
+  if (target.role !== 'checkbox' || (offsetX >= 0 && offsetX < target.clientWidth)) return null;
+  return page.view.hostAround(target);
+}
+
+function clicked(page, event) {
+  const link = event.target.closest('a'), item = itemOfMark(page, event);
+  if (link) {
+    event.preventDefault();
+    if (link.href && (event.ctrlKey || event.metaKey)) window.open(link.href, '_blank', 'noopener');
+  } else if (item) {
+    const checked = item.attributes.get('aria-checked') !== 'true';
+    page.act({ update: [{ set: item.key, fields: { checked } }] }, null);
+  }
 }
