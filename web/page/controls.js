@@ -1,0 +1,109 @@
+// What the bar offers: the label, the icon, the keys and the lines of each command, and when it counts as pressed.
+import { linesIn } from './ranges.js';
+import { cellsIn } from './cells.js';
+import { formatBits } from './formats.js';
+
+/** @typedef {import('./page.js').Page} Page */
+/** @typedef {ReturnType<typeof import('./around.js').around>} Around */
+/** @typedef {import('../lines.js').Line} Line */
+
+/**
+ * `level` is the width of the bar from which there is a button, see toolbar.js. `isOff` says when nothing can be done.
+ * @typedef {{ label: string, icon: string, keys?: string, level?: number,
+ *   lines: (state: Around, page: Page) => Line | Line[],
+ *   isPressed?: (state: Around, page: Page) => boolean, isOff?: (state: Around) => boolean }} Control
+ */
+
+/** @returns {Line} */
+const command = (name, payload) => payload === undefined ? { dispatch: name } : { dispatch: name, payload };
+
+/** @returns {Control} */
+const format = (name, label, keys, level) => ({
+  label, icon: name, keys, level,
+  lines: () => command('format-text', name),
+  isPressed: state => (state.format & formatBits[name]) !== 0,
+});
+
+/** @returns {Control} */
+const block = (name, label, keys) => ({
+  label, icon: name, keys,
+  lines: () => command(`block-${name}`),
+  isPressed: state => state.block === name,
+});
+
+/** @returns {Control} */
+const list = (name, label, keys, level) => ({
+  label, icon: name, keys, level,
+  lines: state => state.block === name ? command('remove-list') : command('make-list', name),
+  isPressed: state => state.block === name,
+});
+
+/** The side from which a block is read needs no alignment: then it is as it was before any was given. */
+const alignment = (name, label, keys) => ({
+  label, icon: `align-${name}`, keys, level: 2,
+  lines: (state, page) => command('align', name === startOf(page) ? '' : name),
+  isPressed: ({ align }, page) => (align || startOf(page)) === name,
+});
+
+/** @returns {Control} */
+const direction = (name, label, icon) => ({
+  label, icon,
+  lines: (state, page) => {
+    const fields = { direction: directionOf(page) === name ? null : name };
+    return { update: selectedLines(page).map(({ key }) => ({ set: key, fields })) };
+  },
+  isPressed: (state, page) => directionOf(page) === name,
+});
+
+/** @type {Record<string, Control>} */
+export const controls = {
+  'undo': { label: 'Undo', icon: 'undo', keys: 'Mod+Z', lines: () => command('undo'), isOff: state => !state.canUndo },
+  'redo': { label: 'Redo', icon: 'redo', keys: 'Mod+Shift+Z', lines: () => command('redo'), isOff: state => !state.canRedo },
+
+  'block-paragraph': block('paragraph', 'Paragraph', 'Mod+Alt+0'),
+  'block-heading-1': block('heading-1', 'Heading 1', 'Mod+Alt+1'),
+  'block-heading-2': block('heading-2', 'Heading 2', 'Mod+Alt+2'),
+  'block-heading-3': block('heading-3', 'Heading 3', 'Mod+Alt+3'),
+  'block-quote': block('quote', 'Quote', 'Mod+Alt+4'),
+
+  'bold': format('bold', 'Bold', 'Mod+B'),
+  'italic': format('italic', 'Italic', 'Mod+I'),
+  'underline': format('underline', 'Underline', 'Mod+U', 1),
+  'strikethrough': format('strikethrough', 'Strikethrough', 'Mod+Shift+X', 1),
+  'code': format('code', 'Code', 'Mod+E', 1),
+  'highlight': format('highlight', 'Highlight', 'Mod+Shift+H', 1),
+  'subscript': format('subscript', 'Subscript', 'Mod+,'),
+  'superscript': format('superscript', 'Superscript', 'Mod+.'),
+  'clear-format': { label: 'Clear formatting', icon: 'clear', keys: 'Mod+\\', lines: () => command('clear-format') },
+
+  'align-left': alignment('left', 'Align left', 'Mod+Shift+L'),
+  'align-center': alignment('center', 'Center', 'Mod+Shift+E'),
+  'align-right': alignment('right', 'Align right', 'Mod+Shift+R'),
+  'align-justify': alignment('justify', 'Justify', 'Mod+Shift+J'),
+  'left-to-right': direction('ltr', 'Left to right', 'left-to-right'),
+  'right-to-left': direction('rtl', 'Right to left', 'right-to-left'),
+
+  'bullet': list('bullet', 'Bulleted list', 'Mod+Shift+8'),
+  'number': list('number', 'Numbered list', 'Mod+Shift+7', 1),
+  'check': list('check', 'Check list', 'Mod+Shift+9', 1),
+  'outdent': { label: 'Decrease indent', icon: 'outdent', keys: 'Mod+[', level: 2, lines: () => command('outdent') },
+  'indent': { label: 'Increase indent', icon: 'indent', keys: 'Mod+]', level: 2, lines: () => command('indent') },
+
+  'insert-rule': { label: 'Dividing line', icon: 'rule', lines: () => command('insert-rule') },
+  'select-all': { label: 'Select all', icon: 'select-all', keys: 'Mod+A', lines: () => command('select-all') },
+};
+
+/** @param {Page} page */
+function selectedLines(page) {
+  const { hosts } = page.view, selection = page.selected ?? page.selection;
+  return selection?.anchor === undefined ? [] : linesIn(hosts, selection, cellsIn(hosts, selection));
+}
+
+/** The direction that the document gives the first selected line; without one its letters do. */
+const directionOf = page => selectedLines(page)[0]?.attributes.get('dir') ?? null;
+
+/** The side on which the first selected line begins. */
+function startOf(page) {
+  const [line] = selectedLines(page);
+  return line && getComputedStyle(page.view.elementOf(line)).direction === 'rtl' ? 'right' : 'left';
+}

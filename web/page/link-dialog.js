@@ -1,0 +1,125 @@
+// A small dialog for a link: its address, and where nothing is selected its text.
+import { show } from '../selection.js';
+import { addressMeant } from './addresses.js';
+import { icon } from './icons.js';
+import { linksIn } from './link-lines.js';
+import { placeBelow } from './popup.js';
+import { isCaret, isRange, placesOf } from './ranges.js';
+
+/**
+ * The dialog of a page. While it is open, what was selected before keeps its mark.
+ * @param {import('./page.js').Page} page
+ * @returns {{ element: HTMLElement, open: () => void }}
+ */
+export function linkDialog(page) {
+  const element = document.createElement('form');
+  const text = field('Text'), address = field('Address');
+  const apply = button('Link', 'done'), follow = button('Open', 'open'), remove = button('No link', 'unlink');
+  let selection = null;
+
+  element.className = 'popup link-dialog';
+  element.popover = 'auto';
+  element.noValidate = true;
+  element.role = 'dialog';
+  element.ariaLabel = 'Link';
+  apply.type = 'submit';
+  address.input.inputMode = 'url';
+  address.input.placeholder = 'https://';
+  element.append(text.label, address.label, buttons(apply, follow, remove));
+
+  function open() {
+    const { hosts } = page.view;
+    selection = page.selected ?? placesOf(page.selection);
+    if (!isRange(selection)) return page.notify('Put the caret where the link is to be, or select its words.');
+    const [link] = linksIn(hosts, selection);
+    text.label.hidden = Boolean(link) || !isCaret(selection);
+    follow.hidden = remove.hidden = !link;
+    text.input.value = '';
+    address.input.value = link?.attributes.get('href') ?? '';
+    markSelected(page);
+    placeBelow(element, placeOfSelected(page));
+    element.showPopover();
+    (text.label.hidden ? address : text).input.focus();
+    address.input.select();
+  }
+
+  /** Puts the caret back where it was: the browser moves it into what has the focus. */
+  async function close(line = null) {
+    const kept = selection;
+    element.hidePopover();
+    if (line) await page.act(line, kept);
+    page.focus();
+    if (!line) show(page.view, { ...kept, kind: 'range' });
+  }
+
+  element.addEventListener('submit', event => {
+    event.preventDefault();
+    const url = addressMeant(address.input.value);
+    if (url === null) return page.notify('Links to such addresses aren\'t made here, since they can run programs.');
+    if (url === '') return close({ dispatch: 'unlink' });
+    if (text.label.hidden) return close({ dispatch: 'link', payload: url });
+    close(linkWith(text.input.value || address.input.value.trim(), url, page.selection?.format ?? 0));
+  });
+  remove.addEventListener('click', () => close({ dispatch: 'unlink' }));
+  follow.addEventListener('click', () => {
+    const url = addressMeant(address.input.value);
+    if (url) window.open(url, '_blank', 'noopener');
+    close();
+  });
+  element.addEventListener('keydown', event => {
+    event.stopPropagation();
+    if (event.key !== 'Escape') return;
+    event.preventDefault();
+    close();
+  });
+  element.addEventListener('toggle', ({ newState }) => {
+    if (newState === 'closed') globalThis.CSS?.highlights?.delete('selected');
+  });
+  return { element, open };
+}
+
+/** The element with what is selected may lose the browser's mark of it, so it gets another. */
+function markSelected(page) {
+  const browser = getSelection();
+  if (!globalThis.CSS?.highlights || browser.rangeCount === 0 || !page.selected) return;
+  CSS.highlights.set('selected', new Highlight(browser.getRangeAt(0).cloneRange()));
+}
+
+/** The place of what is selected; a caret in an empty block has none of its own. */
+function placeOfSelected(page) {
+  const browser = getSelection();
+  if (browser.rangeCount === 0 || !page.selected) return page.view.element.getBoundingClientRect();
+  const place = browser.getRangeAt(0).getBoundingClientRect();
+  if (place.bottom > 0) return place;
+  const { focusNode } = browser;
+  return (focusNode.closest ? focusNode : focusNode.parentElement).getBoundingClientRect();
+}
+
+/** The line that puts in a link with its text. */
+function linkWith(text, url, format) {
+  const nodes = [{ type: 'link', url, children: [{ type: 'text', text, format }] }];
+  return { dispatch: 'paste', payload: JSON.stringify({ namespace: 'lexical-core', nodes }) };
+}
+
+function field(words) {
+  const label = document.createElement('label'), input = document.createElement('input');
+  input.type = 'text';
+  input.spellcheck = false;
+  input.autocomplete = 'off';
+  label.append(words, input);
+  return { label, input };
+}
+
+function button(words, name) {
+  const element = document.createElement('button');
+  element.type = 'button';
+  element.append(icon(name), words);
+  return element;
+}
+
+function buttons(...children) {
+  const element = document.createElement('div');
+  element.className = 'buttons';
+  element.append(...children);
+  return element;
+}

@@ -1,0 +1,29 @@
+// What opens below a button, above all else on the page, and closes at a click elsewhere or at Escape.
+
+/**
+ * Has a button open and close a panel. The panel is in the document, best right behind the button.
+ * @param {HTMLElement} button
+ * @param {HTMLElement} panel
+ * @param {{ opened?: () => void, closed?: () => void }} [listeners]
+ */
+export function popup(button, panel, { opened = () => {}, closed = () => {} } = {}) {
+  panel.classList.add('popup');
+  panel.popover = 'auto';
+  button.popoverTargetElement = panel;
+  button.ariaExpanded = 'false';
+  panel.addEventListener('beforetoggle', ({ newState }) => {
+    button.ariaExpanded = String(newState === 'open');
+    if (newState === 'open') placeBelow(panel, button.getBoundingClientRect());
+  });
+  panel.addEventListener('toggle', ({ newState }) => newState === 'open' ? opened() : closed());
+}
+
+/**
+ * Places a panel below what is there; the style sheet keeps it inside the window.
+ * @param {HTMLElement} panel
+ * @param {{ left: number, bottom: number }} place
+ */
+export function placeBelow(panel, { left, bottom }) {
+  panel.style.setProperty('--left', `${Math.round(left)}px`);
+  panel.style.setProperty('--top', `${Math.round(bottom + 4)}px`);
+}

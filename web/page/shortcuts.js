@@ -1,0 +1,37 @@
+// Keys of commands, written as `Mod+Shift+X`: Mod is the command key on Apple's machines, and Control elsewhere.
+
+const isApple = /Mac|iPhone|iPad/.test(navigator.platform);
+
+/** What the parts are called on a button's label. */
+const names = isApple
+  ? { Mod: '⌘', Shift: '⇧', Alt: '⌥' }
+  : { Mod: 'Ctrl', Shift: 'Shift', Alt: 'Alt' };
+
+/**
+ * Keys as a reader knows them.
+ * @param {string} keys
+ */
+export function shown(keys) {
+  return keys.split('+').map(part => names[part] ?? part).join(isApple ? '' : '+');
+}
+
+/**
+ * Keys as the attribute `aria-keyshortcuts` has them.
+ * @param {string} keys
+ */
+export function spoken(keys) {
+  return keys.replace('Mod', isApple ? 'Meta' : 'Control');
+}
+
+/**
+ * Whether an event is that of the keys. Digits are found by their place, since with Shift each layout has other signs.
+ * @param {KeyboardEvent} event
+ * @param {string} keys
+ */
+export function isPressed(event, keys) {
+  const held = keys.split('+'), last = held.pop();
+  const isMod = isApple ? event.metaKey && !event.ctrlKey : event.ctrlKey && !event.metaKey;
+  if (isMod !== held.includes('Mod') || event.shiftKey !== held.includes('Shift')) return false;
+  if (event.altKey !== held.includes('Alt') || event.getModifierState('AltGraph')) return false;
+  return /^\d$/.test(last) ? event.code === `Digit${last}` : event.key.toLowerCase() === last.toLowerCase();
+}

@@ -1,0 +1,67 @@
+// A button for a new table, with a grid below it in which one shows how large the table is to be.
+import { popup } from './popup.js';
+import { headerSteps } from './table-headers.js';
+import { tool } from './tools.js';
+
+const MOST = 8; // rows and columns that the grid offers; more come by the table's own bar
+
+/**
+ * @param {import('./page.js').Page} page
+ * @returns {[button: HTMLElement, grid: HTMLElement]}
+ */
+export function tableSize(page) {
+  const button = tool('table', { label: 'Table', icon: 'table' });
+  delete button.dataset.command;
+  button.dataset.menu = 'table';
+  const panel = document.createElement('div');
+  const grid = document.createElement('div');
+  const words = document.createElement('output');
+  const cells = Array.from({ length: MOST * MOST }, (_, index) => cell(index));
+
+  function point(to) {
+    const [rows, columns] = sizeAt(to);
+    cells.forEach((each, index) => {
+      each.classList.toggle('inside', sizeAt(index)[0] <= rows && sizeAt(index)[1] <= columns);
+      each.tabIndex = index === to ? 0 : -1;
+    });
+    words.value = `${rows} × ${columns}`;
+  }
+
+  async function insert(index) {
+    panel.hidePopover();
+    const [rows, columns] = sizeAt(index);
+    const [{ refused }] = await page.act({ dispatch: 'insert-table', payload: [rows, columns, false] });
+    if (!refused) await page.act({ tags: ['history-merge'], update: headerSteps(page, 'row') });
+    page.focus();
+  }
+
+  panel.className = 'table-size';
+  panel.role = 'dialog';
+  panel.ariaLabel = 'Size of the table: rows and columns';
+  grid.className = 'table-size-grid';
+  grid.append(...cells);
+  panel.append(grid, words);
+  popup(button, panel, { opened: () => { point(MOST + 1); cells[MOST + 1].focus(); } });
+  grid.addEventListener('pointermove', ({ target }) => cells.includes(target) && target.focus());
+  grid.addEventListener('focusin', ({ target }) => point(cells.indexOf(target)));
+  grid.addEventListener('click', ({ target }) => cells.includes(target) && insert(cells.indexOf(target)));
+  panel.addEventListener('keydown', event => {
+    event.stopPropagation(); // the bar around it has arrows of its own
+    const [rows, columns] = sizeAt(cells.indexOf(document.activeElement));
+    const [down, right] = { ArrowDown: [1, 0], ArrowUp: [-1, 0], ArrowRight: [0, 1], ArrowLeft: [0, -1] }[event.key] ?? [];
+    if (down === undefined) return;
+    event.preventDefault();
+    cells.find((_, index) => String(sizeAt(index)) === String([rows + down, columns + right]))?.focus();
+  });
+  return [button, panel];
+}
+
+/** The rows and columns of the table whose last cell is a cell of the grid. */
+const sizeAt = index => [Math.floor(index / MOST) + 1, index % MOST + 1];
+
+function cell(index) {
+  const element = document.createElement('button'), [rows, columns] = sizeAt(index);
+  element.type = 'button';
+  element.ariaLabel = `${rows} rows, ${columns} columns`;
+  return element;
+}

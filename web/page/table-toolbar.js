@@ -1,0 +1,98 @@
+// The small bar of a table, above the table with the caret.
+import { hasHeaders, headerSteps, tableAt } from './table-headers.js';
+import { follow, followArrows, group, stopAt, tool, toolsSeen } from './tools.js';
+
+const command = (name, payload) => () => payload === undefined ? { dispatch: name } : { dispatch: name, payload };
+
+/** @type {Record<string, { label: string, icon: string, lines: Function, isPressed?: Function, isOff?: Function }>} */
+const controls = {
+  'row-before': { label: 'Row above', icon: 'row-before', lines: command('insert-row', 'before') },
+  'row-after': { label: 'Row below', icon: 'row-after', lines: command('insert-row', 'after') },
+  'column-before': { label: 'Column before', icon: 'column-before', lines: command('insert-column', 'before') },
+  'column-after': { label: 'Column behind', icon: 'column-after', lines: command('insert-column', 'after') },
+  'delete-row': { label: 'Delete row', icon: 'row-away', lines: command('delete-row') },
+  'delete-column': { label: 'Delete column', icon: 'column-away', lines: command('delete-column') },
+  'merge-cells': { label: 'Merge cells', icon: 'merge', lines: command('merge-cells'), isOff: page => !hasCells(page) },
+  'unmerge': { label: 'Split cell', icon: 'unmerge', lines: command('unmerge'), isOff: page => !isMerged(page) },
+  'header-row': {
+    label: 'Header row', icon: 'header-row',
+    lines: page => ({ update: headerSteps(page, 'row') }),
+    isPressed: page => hasHeaders(tableAt(page), 'row'),
+  },
+  'header-column': {
+    label: 'Header column', icon: 'header-column',
+    lines: page => ({ update: headerSteps(page, 'column') }),
+    isPressed: page => hasHeaders(tableAt(page), 'column'),
+  },
+  'delete-table': { label: 'Delete table', icon: 'table-away', lines: command('delete-table') },
+};
+
+const groups = [
+  ['row-before', 'row-after', 'delete-row'],
+  ['column-before', 'column-after', 'delete-column'],
+  ['merge-cells', 'unmerge'],
+  ['header-row', 'header-column', 'delete-table'],
+];
+
+/**
+ * Puts the bar into an element. It is shown while the caret is in a table.
+ * @param {import('./page.js').Page} page
+ * @param {HTMLElement} element
+ * @returns {HTMLElement} the bar
+ */
+export function tableToolbar(page, element) {
+  const bar = document.createElement('div');
+  bar.className = 'bar table-bar';
+  bar.role = 'toolbar';
+  bar.ariaLabel = 'Table';
+  bar.hidden = true;
+  bar.append(...groups.map(names => group(names.map(name => tool(name, controls[name])))));
+  element.append(bar);
+  bar.addEventListener('mousedown', event => event.preventDefault()); // what is selected stays so
+  bar.addEventListener('click', async ({ target }) => {
+    const button = target.closest('.tool');
+    if (!button || button.ariaDisabled === 'true') return;
+    await page.act(controls[button.dataset.command].lines(page));
+    page.focus();
+  });
+  followArrows(bar);
+
+  const place = () => {
+    const table = bar.hidden ? null : tableAt(page);
+    if (table) placeAbove(bar, page.view.elementOf(table), page.view.element);
+  };
+  follow(page, () => {
+    bar.hidden = tableAt(page) === null;
+    if (bar.hidden) return;
+    for (const button of bar.querySelectorAll('.tool')) {
+      const { isPressed, isOff } = controls[button.dataset.command];
+      if (isPressed) button.ariaPressed = String(isPressed(page));
+      if (isOff) button.ariaDisabled = String(isOff(page));
+    }
+    if (!toolsSeen(bar).some(button => button.tabIndex === 0)) stopAt(bar, toolsSeen(bar)[0]);
+    place();
+  });
+  addEventListener('scroll', place, { passive: true });
+  addEventListener('resize', place);
+  return bar;
+}
+
+const hasCells = page => (page.selected ?? page.selection)?.table !== undefined;
+
+/** Whether the cell with the caret has come of several. */
+function isMerged(page) {
+  const cell = document.activeElement && getSelection().focusNode;
+  const element = cell?.closest ? cell : cell?.parentElement;
+  const around = element?.closest('td, th');
+  return Boolean(around && (around.colSpan > 1 || around.rowSpan > 1));
+}
+
+/** Puts the bar right above a table, and while that is out of sight, below the bar of the page. */
+function placeAbove(bar, table, page) {
+  const { top, left, bottom } = table.getBoundingClientRect();
+  const ceiling = Math.max(0, document.querySelector('.bar')?.getBoundingClientRect().bottom ?? 0) + 4;
+  const height = bar.offsetHeight, right = document.documentElement.clientWidth - bar.offsetWidth - 4;
+  const highest = Math.max(top - height - 4, ceiling);
+  bar.style.top = `${Math.round(Math.min(highest, Math.max(bottom + 4, ceiling)))}px`;
+  bar.style.left = `${Math.round(Math.max(4, Math.min(left, right)))}px`;
+}

@@ -1,0 +1,144 @@
+// The bar of commands above the document. It is one stop of the Tab key, and arrows go through it. Where there is less
+// room, buttons of a higher level go into the menu at its end.
+import { around } from './around.js';
+import { controls } from './controls.js';
+import { icon } from './icons.js';
+import { linkDialog } from './link-dialog.js';
+import { mark, menu } from './menu.js';
+import { isPressed } from './shortcuts.js';
+import { tableSize } from './table-size.js';
+import { follow, followArrows, group, stopAt, tool, toolsSeen } from './tools.js';
+
+/** Widths in pixels from which there are buttons of level 1 and level 2. */
+const WIDTHS = [0, 600, 820];
+
+const blocks = ['block-paragraph', 'block-heading-1', 'block-heading-2', 'block-heading-3', 'block-quote'];
+const lists = ['bullet', 'number', 'check'];
+const alignments = ['align-left', 'align-center', 'align-right', 'align-justify'];
+const levelled = ['underline', 'strikethrough', 'code', 'highlight'];
+
+/**
+ * Puts the bar of a page into an element. Its buttons have the names of their commands in `data-command`.
+ * @param {import('./page.js').Page} page
+ * @param {HTMLElement} element
+ * @returns {HTMLElement} the bar
+ */
+export function toolbar(page, element) {
+  const bar = document.createElement('div');
+
+  async function choose(name) {
+    if (name === 'link') return link.open();
+    if (controls[name].isOff?.(around(page))) return;
+    await page.act(controls[name].lines(around(page), page));
+    page.focus();
+  }
+
+  const link = linkDialog(page);
+  const items = (names, kind, level) => names.map(name => ({ name, ...controls[name], kind, level }));
+  const menus = [
+    withMenu('block', 'Type of block', [...items(blocks, 'choice'), null, ...items(lists, 'choice')], choose),
+    withMenu('align', 'Alignment', items(alignments, 'choice'), choose),
+    withMenu('more', 'More', moreItems(items), choose),
+  ];
+  const [blockMenu, alignMenu, moreMenu] = menus;
+  const tools = names => names.map(name => tool(name, controls[name]));
+  const linkTool = tool('link', { label: 'Link', icon: 'link', keys: 'Mod+K' });
+
+  bar.className = 'bar';
+  bar.role = 'toolbar';
+  bar.ariaLabel = 'Commands';
+  alignMenu.button.dataset.level = 2;
+  bar.append(
+    group(tools(['undo', 'redo'])),
+    group([blockMenu.button, blockMenu.element]),
+    group([...tools(['bold', 'italic', ...levelled]), linkTool]),
+    group([alignMenu.button, alignMenu.element, ...tools(['outdent', 'indent'])]),
+    group(tools(lists)),
+    group([...tableSize(page), moreMenu.button, moreMenu.element]),
+  );
+  element.append(bar, link.element);
+
+  bar.addEventListener('mousedown', event => {
+    if (event.target.closest('.tool')) event.preventDefault(); // what is selected stays so
+  });
+  bar.addEventListener('click', ({ target }) => {
+    const pressed = target.closest('.tool[data-command]');
+    if (pressed) choose(pressed.dataset.command);
+  });
+  page.view.element.addEventListener('keydown', event => {
+    if (event.defaultPrevented || event.isComposing) return; // the page itself knows some of the keys
+    const name = isPressed(event, 'Mod+K') ? 'link' : namesWithKeys.find(known => isPressed(event, controls[known].keys));
+    if (!name) return;
+    event.preventDefault();
+    choose(name);
+  });
+
+  followArrows(bar);
+  followWidth(bar);
+  follow(page, () => {
+    const state = around(page);
+    showState(bar, page, state);
+    for (const { element: entries } of menus) mark(entries, name => Boolean(controls[name].isPressed?.(state, page)));
+    const type = [...blocks, ...lists].find(name => controls[name].isPressed(state, page)) ?? 'block-paragraph';
+    dress(blockMenu.button, controls[type]);
+    dress(alignMenu.button, controls[alignments.find(name => controls[name].isPressed(state, page)) ?? 'align-left']);
+  });
+  return bar;
+}
+
+const namesWithKeys = Object.keys(controls).filter(name => controls[name].keys);
+
+/** Each command that has no button of its own, and those whose buttons need more room. */
+function moreItems(items) {
+  return [
+    ...items(levelled, 'check').map(item => ({ ...item, level: controls[item.name].level })),
+    ...items(['subscript', 'superscript'], 'check'),
+    ...items(['clear-format'], 'action'),
+    null,
+    ...items(['number', 'check'], 'check', 1),
+    ...items(['outdent', 'indent'], 'action', 2),
+    ...items(alignments, 'choice', 2),
+    ...items(['left-to-right', 'right-to-left'], 'check'),
+    null,
+    ...items(['insert-rule', 'select-all'], 'action'),
+  ];
+}
+
+/** A button with a menu, and the menu. */
+function withMenu(name, label, items, choose) {
+  const button = tool(name, { label, icon: 'more' });
+  delete button.dataset.command;
+  button.dataset.menu = name;
+  if (name !== 'more') button.append(icon('down'));
+  return { button, element: menu(button, { label, items, choose }) };
+}
+
+/** Shows on a menu's button what is chosen in it: the icon, and in words for the block's type. */
+function dress(button, { label, icon: name }) {
+  if (button.dataset.chosen === name) return;
+  button.dataset.chosen = name;
+  button.firstChild.replaceWith(icon(name));
+  button.querySelector('span')?.remove();
+  if (button.dataset.menu !== 'block') return;
+  const words = document.createElement('span');
+  words.textContent = label;
+  button.firstChild.after(words);
+}
+
+function showState(bar, page, state) {
+  for (const button of bar.querySelectorAll('.tool[data-command]')) {
+    const control = controls[button.dataset.command];
+    if (button.dataset.command === 'link') button.ariaPressed = String(Boolean(state.link));
+    else if (control?.isPressed) button.ariaPressed = String(control.isPressed(state, page));
+    if (control?.isOff) button.ariaDisabled = String(control.isOff(state));
+  }
+}
+
+/** Says how wide the bar is, for the style sheet, and keeps the stop of the Tab key on a button that can be seen. */
+function followWidth(bar) {
+  new ResizeObserver(([{ contentRect }]) => {
+    bar.dataset.width = WIDTHS.findLastIndex(width => contentRect.width >= width);
+    const seen = toolsSeen(bar);
+    if (seen.length > 0 && !seen.some(button => button.tabIndex === 0)) stopAt(bar, seen[0]);
+  }).observe(bar);
+}
