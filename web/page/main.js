@@ -1,5 +1,26 @@
+// Starts the page: the document that the browser keeps, or a new one, and all that is around it.
+import { clipboard } from './clipboard.js';
+import { drop } from './drop.js';
+import { files } from './files.js';
+import { inspector } from './inspector.js';
+import { moduleHere } from './module.js';
+import { notices } from './notices.js';
 import { Page } from './page.js';
+import { storage } from './storage.js';
+import { tableToolbar } from './table-toolbar.js';
+import { toolbar } from './toolbar.js';
 
-const page = await Page.open(document.getElementById('page'));
+const part = name => document.getElementById(name);
+
+const kept = storage();
+const page = await Page.open(part('page'), { source: moduleHere(), log: kept.log });
+notices(page, part('notices'));
+const opened = files(page, part('bar'), kept);
+toolbar(page, part('bar'));
+tableToolbar(page, part('page'));
+clipboard(page);
+drop(page, opened);
+inspector(page, part('core'));
+kept.keep(page);
 page.focus();
 window.page = page; // for a look from the console
