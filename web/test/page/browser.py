@@ -14,15 +14,30 @@ from selenium.webdriver.common.keys import Keys
 
 WEB = pathlib.Path(__file__).resolve().parents[2]
 
+# An element as HTML, as the core writes it, but for what the page adds by itself: attributes of the document's element,
+# and `dir="auto"` of its blocks.
+WRITE = r"""
+const escaped = text => text.replace(/[&<>"]/g, c => ({ '&': '&amp;', '<': '&lt;', '>': '&gt;', '"': '&quot;' })[c]);
+const isTold = (node, name) => node.parentNode?.localName !== 'main' && (name !== 'dir' || node.dir !== 'auto');
+function htmlOf(node) {
+  if (node.nodeType === Node.TEXT_NODE) return escaped(node.data);
+  const names = node.getAttributeNames().filter(name => isTold(node, name)).sort();
+  const attributes = names.map(name => ` ${name}="${escaped(node.getAttribute(name))}"`);
+  const inside = [...node.childNodes].map(htmlOf).join('');
+  const start = `<${node.localName}${attributes.join('')}>`;
+  return ['br', 'hr'].includes(node.localName) ? start : `${start}${inside}</${node.localName}>`;
+}
+"""
+
 # What disagrees: the hosts with the core's view, the page with its hosts, what the browser has selected with the core.
-FAULTS = r"""
+FAULTS = WRITE + r"""
 const [done] = arguments, { page } = window, found = [];
 (async () => {
   const view = (await page.ask({ show: 'view' })).view, html = page.view.hosts.html();
   if (html !== view) found.push(`the hosts are ${html}\n    the core has  ${view}`);
   const fresh = new page.view.constructor(document.createElement('div'));
   fresh.apply(page.view.hosts.fold());
-  const shown = page.view.element.innerHTML, drawn = fresh.element.innerHTML;
+  const shown = htmlOf(page.view.element), drawn = htmlOf(fresh.element);
   if (shown !== drawn) found.push(`the page has  ${shown}\n    it should be  ${drawn}`);
   const selection = (await page.ask({ show: 'selection' })).selection;
   const isHere = page.view.element.contains(getSelection().anchorNode);
@@ -34,21 +49,7 @@ const [done] = arguments, { page } = window, found = [];
 })().then(() => done(found), error => done([String(error)]));
 """
 
-# The HTML of the document, as the core writes it, but for the attributes that the page sets at its root, and for
-# `data-lexical-text`, which each text has.
-HTML = r"""
-const escaped = text => text.replace(/[&<>"]/g, c => ({ '&': '&amp;', '<': '&lt;', '>': '&gt;', '"': '&quot;' })[c]);
-function htmlOf(node) {
-  if (node.nodeType === Node.TEXT_NODE) return escaped(node.data);
-  const isTold = name => node !== page.view.element && name !== 'data-lexical-text';
-  const names = node.getAttributeNames().filter(isTold).sort();
-  const attributes = names.map(name => ` ${name}="${escaped(node.getAttribute(name))}"`);
-  const inside = [...node.childNodes].map(htmlOf).join('');
-  const start = `<${node.localName}${attributes.join('')}>`;
-  return ['br', 'hr'].includes(node.localName) ? start : `${start}${inside}</${node.localName}>`;
-}
-return htmlOf(page.view.element);
-"""
+HTML = WRITE + "return htmlOf(page.view.element).replaceAll(' data-lexical-text=\"true\"', '');"
 
 # Selects from an offset of the first text that has the words to an offset of one that has others; offsets count from
 # where the words begin.
