@@ -25,17 +25,31 @@ export function clipboard(page) {
   const { ownerDocument } = element;
   for (const name of ['copy', 'cut', 'dragstart']) {
     // Tells the core what is selected. The promises of this act are kept before the browser calls the next listener.
-    ownerDocument.addEventListener(name, event => { if (isWithin(page, event)) page.act([]); }, true);
+    ownerDocument.addEventListener(name, event => { if (isWithin(page, event)) page.act({ update: [] }); }, true);
   }
   element.addEventListener('copy', event => { put(page, event.clipboardData, event); });
   element.addEventListener('cut', event => {
     if (put(page, event.clipboardData, event)) page.act({ dispatch: 'cut' });
   });
+  const isTold = onceEachPress(element);
   element.addEventListener('paste', event => {
     event.preventDefault();
+    if (isTold()) return;
     const content = contentOf(page, event.clipboardData);
     if (content !== null) insert(page, content);
   });
+}
+
+/**
+ * Chromium may tell a paste twice for one press of Ctrl+Shift+V, where the first is prevented. Answers a function that
+ * says whether the press was asked for before.
+ * @param {HTMLElement} element
+ */
+function onceEachPress(element) {
+  let times = 0;
+  element.addEventListener('keydown', ({ shiftKey, code }) => { times = shiftKey && code === 'KeyV' ? 1 : 0; });
+  element.addEventListener('keyup', () => { times = 0; });
+  return () => times > 0 && times++ > 1;
 }
 
 /**
@@ -105,6 +119,39 @@ export function contentOf(page, data) {
   if (text !== '') return { text };
   page.notify(nothingIn(data));
   return null;
+}
+
+/**
+ * @param {Page} page
+ * @param {DataTransfer} data
+ * @returns {Slice | null}
+ */
+function sliceIn(page, data) {
+  const own = sliceOfJson(data.getData(sliceType));
+  if (own !== null) return own;
+  const html = data.getData('text/html');
+  if (html === '') return null;
+  try {
+    const slice = /** @type {Slice} */ (sliceFromHtml(html)); // at once, since this is a page
+    return isEmpty(slice) ? null : slice;
+  } catch (error) {
+    if (!(error instanceof ContentError)) throw error;
+    page.notify('The formatted text is too large, or nests too deep. Its plain text is taken.');
+    return null;
+  }
+}
+
+/**
+ * @param {string} json
+ * @returns {Slice | null}
+ */
+function sliceOfJson(json) {
+  try {
+    const slice = JSON.parse(json);
+    return Array.isArray(slice?.nodes) && slice.nodes.length > 0 ? slice : null;
+  } catch {
+    return null; // there is none
+  }
 }
 
 /** @param {DataTransfer} data */

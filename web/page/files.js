@@ -152,7 +152,7 @@ async function load(page, loaded) {
   if (!reply || reply.refused) return false;
   const [first] = page.view.hosts.root.children;
   const start = edgeOf(first, true);
-  await page.act([], { anchor: start, focus: start });
+  await page.act({ update: [{ select: { anchor: start, focus: start } }] }, null);
   page.focus();
   return true;
 }

@@ -124,8 +124,8 @@ function stepsOfLine(line) {
 const paste = nodes => nodes.length === 0 ? [] : [{ do: 'paste', payload: JSON.stringify(sliceOf(nodes)) }];
 
 /**
- * The steps that paste a slice. The core puts blocks between blocks. As people know it, the first goes on with the text
- * before the caret and the last with the text behind it, and in a list each line is an item.
+ * The steps that paste a slice. The core puts blocks between blocks. As people know it, a paragraph that is first goes on
+ * with the text before the caret, and one that is last with the text behind it; and in a list each line is an item.
  * @param {Slice} slice
  * @param {Place} place
  * @returns {Step[]}
@@ -143,11 +143,10 @@ export function stepsOfSlice({ nodes }, place) {
     return paste(childrenOf(first));
   }
   if (!place.hasBefore || place.isItem) return paste(nodes);
-  const goesOn = isTextBlock(first);
   const last = others.at(-1);
-  const isJoined = place.hasBehind && last !== undefined && isTextBlock(last) && childrenOf(last).length > 0;
+  const isJoined = place.hasBehind && last?.type === 'paragraph' && childrenOf(last).length > 0;
   return [
-    ...(goesOn ? [...paste(childrenOf(first)), ...paste(others)] : paste(nodes)),
+    ...(first.type === 'paragraph' ? [...paste(childrenOf(first)), ...paste(others)] : paste(nodes)),
     ...(isJoined ? [/** @type {Step} */ ({ do: 'delete-character', payload: 'forward' })] : []),
   ];
 }
