@@ -65,7 +65,7 @@ def typed(page, keys, pause, rests=False):
             page.rest()
         else:
             page.keys(keys[start:start + 50], pause)
-    page.rest()
+    page.act({'update': []})  # tells the core where the caret was moved last
     shown = [page.ask({'show': what}) for what in ('state', 'selection', 'history')]
     return [json_of(reply) for reply in shown], page.faults()
 
