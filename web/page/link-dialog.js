@@ -39,8 +39,9 @@ export function linkDialog(page) {
     markSelected(page);
     placeBelow(element, placeOfSelected(page));
     element.showPopover();
-    (text.label.hidden ? address : text).input.focus();
-    address.input.select();
+    const { input } = text.label.hidden ? address : text;
+    input.focus();
+    input.select();
   }
 
   /** Puts the caret back where it was: the browser moves it into what has the focus. */
@@ -55,6 +56,7 @@ export function linkDialog(page) {
   element.addEventListener('submit', event => {
     event.preventDefault();
     const url = addressMeant(address.input.value);
+    if (/\s/.test(url ?? '')) return page.notify('An address has no spaces in it.');
     if (url === null) return page.notify('Links to such addresses aren\'t made here, since they can run programs.');
     if (url === '') return close({ dispatch: 'unlink' });
     if (text.label.hidden) return close({ dispatch: 'link', payload: url });

@@ -1,4 +1,5 @@
-// The small bar of a table, above the table with the caret.
+// The small bar of a table, below that of the page: there it hides no line next to the table.
+import { showSelectedCells } from './selected-cells.js';
 import { hasHeaders, headerSteps, tableAt } from './table-headers.js';
 import { follow, followArrows, group, stopAt, tool, toolsSeen } from './tools.js';
 
@@ -35,7 +36,7 @@ const groups = [
 ];
 
 /**
- * Puts the bar into an element. It is shown while the caret is in a table.
+ * Puts the bar into the element of the page's bar. It is shown while the caret is in a table.
  * @param {import('./page.js').Page} page
  * @param {HTMLElement} element
  * @returns {HTMLElement} the bar
@@ -56,11 +57,7 @@ export function tableToolbar(page, element) {
     page.focus();
   });
   followArrows(bar);
-
-  const place = () => {
-    const table = bar.hidden ? null : tableAt(page);
-    if (table) placeAbove(bar, page.view.elementOf(table), page.view.element);
-  };
+  showSelectedCells(page);
   follow(page, () => {
     bar.hidden = tableAt(page) === null;
     if (bar.hidden) return;
@@ -70,10 +67,7 @@ export function tableToolbar(page, element) {
       if (isOff) button.ariaDisabled = String(isOff(page));
     }
     if (!toolsSeen(bar).some(button => button.tabIndex === 0)) stopAt(bar, toolsSeen(bar)[0]);
-    place();
   });
-  addEventListener('scroll', place, { passive: true });
-  addEventListener('resize', place);
   return bar;
 }
 
@@ -85,14 +79,4 @@ function isMerged(page) {
   const element = cell?.closest ? cell : cell?.parentElement;
   const around = element?.closest('td, th');
   return Boolean(around && (around.colSpan > 1 || around.rowSpan > 1));
-}
-
-/** Puts the bar right above a table, and while that is out of sight, below the bar of the page. */
-function placeAbove(bar, table, page) {
-  const { top, left, bottom } = table.getBoundingClientRect();
-  const ceiling = Math.max(0, document.querySelector('.bar')?.getBoundingClientRect().bottom ?? 0) + 4;
-  const height = bar.offsetHeight, right = document.documentElement.clientWidth - bar.offsetWidth - 4;
-  const highest = Math.max(top - height - 4, ceiling);
-  bar.style.top = `${Math.round(Math.min(highest, Math.max(bottom + 4, ceiling)))}px`;
-  bar.style.left = `${Math.round(Math.max(4, Math.min(left, right)))}px`;
 }
