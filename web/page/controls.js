@@ -1,17 +1,18 @@
 // What the bar offers: the label, the icon, the keys and the lines of each command, and when it counts as pressed.
-import { linesIn } from './ranges.js';
+import { around } from './around.js';
 import { cellsIn } from './cells.js';
 import { formatBits } from './formats.js';
+import { linesIn } from './ranges.js';
 
 /** @typedef {import('./page.js').Page} Page */
-/** @typedef {ReturnType<typeof import('./around.js').around>} Around */
+/** @typedef {ReturnType<typeof stateOf>} State */
 /** @typedef {import('../lines.js').Line} Line */
 
 /**
  * `level` is the width of the bar from which there is a button, see toolbar.js. `isOff` says when nothing can be done.
  * @typedef {{ label: string, icon: string, keys?: string, level?: number,
- *   lines: (state: Around, page: Page) => Line | Line[],
- *   isPressed?: (state: Around, page: Page) => boolean, isOff?: (state: Around) => boolean }} Control
+ *   lines: (state: State, page: Page) => Line | Line[],
+ *   isPressed?: (state: State) => boolean, isOff?: (state: State) => boolean }} Control
  */
 
 /** @returns {Line} */
@@ -41,18 +42,18 @@ const list = (name, label, keys, level) => ({
 /** The side from which a block is read needs no alignment: then it is as it was before any was given. */
 const alignment = (name, label, keys) => ({
   label, icon: `align-${name}`, keys, level: 2,
-  lines: (state, page) => command('align', name === startOf(page) ? '' : name),
-  isPressed: ({ align }, page) => (align || startOf(page)) === name,
+  lines: ({ start }) => command('align', name === start ? '' : name),
+  isPressed: ({ align, start }) => (align || start) === name,
 });
 
 /** @returns {Control} */
 const direction = (name, label, icon) => ({
   label, icon,
   lines: (state, page) => {
-    const fields = { direction: directionOf(page) === name ? null : name };
+    const fields = { direction: state.direction === name ? null : name };
     return { update: selectedLines(page).map(({ key }) => ({ set: key, fields })) };
   },
-  isPressed: (state, page) => directionOf(page) === name,
+  isPressed: state => state.direction === name,
 });
 
 /** @type {Record<string, Control>} */
@@ -99,11 +100,17 @@ function selectedLines(page) {
   return selection?.anchor === undefined ? [] : linesIn(hosts, selection, cellsIn(hosts, selection));
 }
 
-/** The direction that the document gives the first selected line; without one its letters do. */
-const directionOf = page => selectedLines(page)[0]?.attributes.get('dir') ?? null;
-
-/** The side on which the first selected line begins. */
-function startOf(page) {
+/**
+ * What is around the caret. `direction` is what the document says of the first selected line, and `start` the side on
+ * which that begins.
+ * @param {Page} page
+ */
+export function stateOf(page) {
   const [line] = selectedLines(page);
-  return line && getComputedStyle(page.view.elementOf(line)).direction === 'rtl' ? 'right' : 'left';
+  const isFromRight = line !== undefined && getComputedStyle(page.view.elementOf(line)).direction === 'rtl';
+  return {
+    ...around(page),
+    direction: line?.attributes.get('dir') ?? null,
+    start: isFromRight ? 'right' : 'left',
+  };
 }

@@ -1,7 +1,7 @@
 // A menu below a button. Arrows, Home, End and letters go through it, Enter chooses, Escape closes it.
 import { icon } from './icons.js';
 import { popup } from './popup.js';
-import { shown } from './shortcuts.js';
+import { shown, spoken } from './shortcuts.js';
 
 /**
  * What a menu offers. A choice is one of several that exclude each other; `level` says that the bar has it as a button
@@ -28,7 +28,8 @@ export function menu(button, { label, items, choose }) {
   let from = 'first';
   popup(button, element, {
     opened() {
-      const checked = from === 'first' && element.querySelector('[aria-checked=true]');
+      const isChoice = element.firstElementChild.role === roles.choice;
+      const checked = isChoice && from === 'first' && element.querySelector('[aria-checked=true]');
       (checked || entries(element).at(from === 'first' ? 0 : -1))?.focus();
       from = 'first';
     },
@@ -76,6 +77,8 @@ function entry({ name, label, icon: drawn, keys, level, kind = 'action' }) {
   if (keys) {
     const pressed = document.createElement('kbd');
     pressed.textContent = shown(keys);
+    pressed.ariaHidden = 'true'; // the attribute says it
+    element.setAttribute('aria-keyshortcuts', spoken(keys));
     element.append(pressed);
   }
   return element;

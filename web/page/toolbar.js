@@ -1,7 +1,6 @@
 // The bar of commands above the document. It is one stop of the Tab key, and arrows go through it. Where there is less
 // room, buttons of a higher level go into the menu at its end.
-import { around } from './around.js';
-import { controls } from './controls.js';
+import { controls, stateOf } from './controls.js';
 import { icon } from './icons.js';
 import { linkDialog } from './link-dialog.js';
 import { mark, menu } from './menu.js';
@@ -28,8 +27,7 @@ export function toolbar(page, element) {
 
   async function choose(name) {
     if (name === 'link') return link.open();
-    if (controls[name].isOff?.(around(page))) return;
-    await page.act(controls[name].lines(around(page), page));
+    await page.act(controls[name].lines(stateOf(page), page)); // also where it is off: then it is idle
     page.focus();
   }
 
@@ -65,8 +63,12 @@ export function toolbar(page, element) {
     const pressed = target.closest('.tool[data-command]');
     if (pressed) choose(pressed.dataset.command);
   });
+  bar.addEventListener('keydown', event => {
+    if (event.key === 'Escape' && event.target.classList.contains('tool')) page.focus();
+  });
   page.view.element.addEventListener('keydown', event => {
     if (event.defaultPrevented || event.isComposing) return; // the page itself knows some of the keys
+    if (isPressed(event, 'Alt+F10')) bar.querySelector('.tool[tabindex="0"]').focus(); // Tab itself is typed
     const name = isPressed(event, 'Mod+K') ? 'link' : namesWithKeys.find(known => isPressed(event, controls[known].keys));
     if (!name) return;
     event.preventDefault();
@@ -76,17 +78,23 @@ export function toolbar(page, element) {
   followArrows(bar);
   followWidth(bar);
   follow(page, () => {
-    const state = around(page);
-    showState(bar, page, state);
-    for (const { element: entries } of menus) mark(entries, name => Boolean(controls[name].isPressed?.(state, page)));
-    const type = [...blocks, ...lists].find(name => controls[name].isPressed(state, page)) ?? 'block-paragraph';
-    dress(blockMenu.button, controls[type]);
-    dress(alignMenu.button, controls[alignments.find(name => controls[name].isPressed(state, page)) ?? 'align-left']);
+    const state = stateOf(page);
+    showState(bar, state);
+    for (const { element: entries } of menus) mark(entries, name => Boolean(controls[name].isPressed?.(state)));
+    dress(blockMenu.button, typeShown(state));
+    dress(alignMenu.button, controls[alignments.find(name => controls[name].isPressed(state)) ?? 'align-left']);
   });
   return bar;
 }
 
 const namesWithKeys = Object.keys(controls).filter(name => controls[name].keys);
+
+/** The type of the block, as its menu's button shows it: there may be headings that the menu hasn't. */
+function typeShown(state) {
+  const level = /^heading-([4-6])$/.exec(state.block ?? '')?.[1];
+  if (level) return { label: `Heading ${level}`, icon: 'heading' };
+  return controls[[...blocks, ...lists].find(name => controls[name].isPressed(state)) ?? 'block-paragraph'];
+}
 
 /** Each command that has no button of its own, and those whose buttons need more room. */
 function moreItems(items) {
@@ -115,8 +123,8 @@ function withMenu(name, label, items, choose) {
 
 /** Shows on a menu's button what is chosen in it: the icon, and in words for the block's type. */
 function dress(button, { label, icon: name }) {
-  if (button.dataset.chosen === name) return;
-  button.dataset.chosen = name;
+  if (button.dataset.chosen === label) return;
+  button.dataset.chosen = label;
   button.firstChild.replaceWith(icon(name));
   button.querySelector('span')?.remove();
   if (button.dataset.menu !== 'block') return;
@@ -125,11 +133,11 @@ function dress(button, { label, icon: name }) {
   button.firstChild.after(words);
 }
 
-function showState(bar, page, state) {
+function showState(bar, state) {
   for (const button of bar.querySelectorAll('.tool[data-command]')) {
     const control = controls[button.dataset.command];
     if (button.dataset.command === 'link') button.ariaPressed = String(Boolean(state.link));
-    else if (control?.isPressed) button.ariaPressed = String(control.isPressed(state, page));
+    else if (control?.isPressed) button.ariaPressed = String(control.isPressed(state));
     if (control?.isOff) button.ariaDisabled = String(control.isOff(state));
   }
 }
