@@ -5,6 +5,7 @@ import { aligned, blocksMade, liftedBy } from './blocks.js';
 import { cellAt, cellsIn, emptied, formatted, nextCell, tableOf, tableRemoved } from './cells.js';
 import { formatBits, formatOf } from './formats.js';
 import { linked, linksIn, unlinked } from './link-lines.js';
+import { outsideLink } from './outside-links.js';
 import { blockAt, caretAt, isCaret, isRange, linesIn, textsIn, within } from './ranges.js';
 import { blockCommands } from './rules.js';
 
@@ -53,7 +54,9 @@ const updated = update => ({ lines: [{ update }] });
 export function meantBy(hosts, line, selected, format) {
   const { dispatch: name, payload } = line;
   if (name === undefined || !selected) return { lines: [line], selection: selected };
-  const selection = within(hosts, selected), cells = cellsIn(hosts, selection);
+  const inFrame = within(hosts, selected);
+  // Only what is put in goes beside a link: the command `link` at its edge gives it another address.
+  const selection = inserting.has(name) ? outsideLink(hosts, inFrame) : inFrame, cells = cellsIn(hosts, selection);
   const place = { hosts, selection, cells, payload, format };
   const meant = Object.hasOwn(own, name) ? own[name](place) : { lines: [ofCore(place, line)] };
   return { ...meant, selection };
@@ -68,7 +71,7 @@ function ofCore(place, line) {
     if (lifting === 'outdent') return { dispatch: 'outdent' };
     if (lifting) return own[lifting](place).lines[0];
   }
-  const isBetweenBlocks = isRange(selection) && inserting.has(name) && hasNoBlock(hosts, selection);
+  const isBetweenBlocks = inserting.has(name) && isRange(selection) && hasNoBlock(hosts, selection);
   return isBetweenBlocks ? { update: [{ dispatch: 'insert-paragraph' }, line] } : line;
 }
 

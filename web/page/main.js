@@ -17,7 +17,7 @@ const page = await Page.open(part('page'), { source: moduleHere(), log: kept.log
 notices(page, part('notices'));
 const opened = files(page, part('bar'), kept);
 toolbar(page, part('bar'));
-tableToolbar(page, document.body);
+tableToolbar(page, part('bar'));
 clipboard(page);
 drop(page, opened);
 inspector(page, part('core'));

@@ -39,8 +39,13 @@ export class Page {
   #session;
   #turn = Promise.resolve();
   #waiting = 0;
-  /** The browser's selection when it was looked at last, as JSON. */
+  /** What was selected when that was looked at last, as JSON. */
   #seen = 'null';
+  /**
+   * The places in the browser's selection that show what the core has selected.
+   * @type {unknown[]}
+   */
+  #shown = [];
 
   /**
    * Opens an editor, answers the lines of a log, if there is one, or else the start lines, and shows what comes of it.
@@ -69,10 +74,15 @@ export class Page {
     element.ownerDocument.addEventListener('selectionchange', () => this.#look());
   }
 
-  /** What the browser has selected in the document, as a step `select` takes it; null where that is elsewhere. */
+  /**
+   * What the browser has selected in the document, as a step `select` takes it; null where that is elsewhere. As long
+   * as it is as the page has put it, that is what the core has: the same places may be read in another way.
+   */
   get selected() {
     const browser = this.view.element.ownerDocument.getSelection();
-    return browser && selectionIn(this.view, browser);
+    if (browser === null) return null;
+    const places = placesIn(browser), isAsShown = places.every((place, index) => place === this.#shown[index]);
+    return isAsShown && browser.anchorNode ? placesOf(this.selection) : selectionIn(this.view, browser);
   }
 
   /** Whether an act waits or is under way. */
@@ -199,6 +209,9 @@ export class Page {
 
   #settle() {
     show(this.view, this.selection);
+    const browser = this.view.element.ownerDocument.getSelection();
+    const isHere = browser?.anchorNode && this.view.hostAround(browser.anchorNode) !== null;
+    this.#shown = isHere && this.selection ? placesIn(browser) : [];
     this.#seen = JSON.stringify(this.selected);
     this.history = this.editor.line({ show: 'history' }).history;
     this.#emit('settled');
@@ -217,3 +230,8 @@ export class Page {
     for (const listener of this.#listeners.get(name) ?? []) listener(...details);
   }
 }
+
+/** @param {globalThis.Selection} browser */
+const placesIn = ({ anchorNode, anchorOffset, focusNode, focusOffset }) => (
+  [anchorNode, anchorOffset, focusNode, focusOffset]
+);
