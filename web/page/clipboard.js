@@ -5,6 +5,8 @@ import { edgeOf, isBefore } from '../hosts-order.js';
 import { htmlFromDocument, sliceFromHtml } from '../html.js';
 import { cellsIn } from './cells.js';
 import { sliceOfCells, stepsIntoCells } from './copied-cells.js';
+import { linksIn } from './link-lines.js';
+import { outsideLink } from './outside-links.js';
 import { blockAt, caretAt, isCaret, placesOf } from './ranges.js';
 import { isEmpty, stepsOfSlice, stepsOfText, textOf } from './slices.js';
 
@@ -31,25 +33,45 @@ export function clipboard(page) {
   element.addEventListener('cut', event => {
     if (put(page, event.clipboardData, event)) page.act({ dispatch: 'cut' });
   });
-  const isTold = onceEachPress(element);
+  const plainPastes = countPlainPastes(element);
   element.addEventListener('paste', event => {
     event.preventDefault();
-    if (isTold()) return;
-    const content = contentOf(page, event.clipboardData);
-    if (content !== null) insert(page, content);
+    const times = plainPastes();
+    const content = times > 1 ? null : contentOf(page, event.clipboardData);
+    if (content === null) return;
+    if (times === 0 && isAddress(content.text)) link(page, content.text);
+    else insert(page, content);
   });
 }
 
 /**
- * Chromium may tell a paste twice for one press of Ctrl+Shift+V, where the first is prevented. Answers a function that
- * says whether the press was asked for before.
+ * Whether a text is an address and nothing else, as a browser's address bar gives it.
+ * @param {string} [text]
+ * @returns {text is string}
+ */
+const isAddress = text => text !== undefined && /^(https?:\/\/|mailto:)[^\s<>"]+$/.test(text);
+
+/**
+ * Makes a link of what is selected, or inserts one. In a link an address is text.
+ * @param {Page} page
+ * @param {string} address
+ */
+function link(page, address) {
+  const { hosts } = page.view, selected = outsideLink(hosts, page.selected);
+  if (isCaret(selected) && isInLink(hosts, selected)) insert(page, { text: address });
+  else page.act({ dispatch: 'link', payload: address });
+}
+
+/**
+ * Answers a function that counts the pastes of one press of Ctrl+Shift+V, which asks for plain text; 0 if another key
+ * was pressed, or none. Chromium may tell two of them where the first is prevented.
  * @param {HTMLElement} element
  */
-function onceEachPress(element) {
-  let times = 0;
-  element.addEventListener('keydown', ({ shiftKey, code }) => { times = shiftKey && code === 'KeyV' ? 1 : 0; });
-  element.addEventListener('keyup', () => { times = 0; });
-  return () => times > 0 && times++ > 1;
+function countPlainPastes(element) {
+  let times = -1;
+  element.addEventListener('keydown', ({ shiftKey, code }) => { times = shiftKey && code === 'KeyV' ? 0 : -1; });
+  element.addEventListener('keyup', () => { times = -1; });
+  return () => times < 0 ? 0 : times += 1;
 }
 
 /**
@@ -174,8 +196,9 @@ export async function insert(page, content, selected = page.selected, tags = [])
     const [cut] = await page.act({ dispatch: 'remove-text' }, selected);
     if (cut?.refused) return;
   }
-  const at = isCut ? placesOf(page.selection) : selected;
-  const steps = stepsFor(page.view.hosts, content, at);
+  const { hosts } = page.view;
+  const at = outsideLink(hosts, isCut ? placesOf(page.selection) : selected);
+  const steps = stepsFor(hosts, content, at);
   const [reply] = await page.act({ update: steps, tags: isCut ? ['history-merge'] : tags }, at);
   if (reply?.refused && isCut) await page.act({ dispatch: 'undo' }); // nothing goes where nothing comes
 }
@@ -206,10 +229,19 @@ export function stepsFor(hosts, { slice, text = '' }, at) {
 function placeAround(hosts, caret) {
   const point = /** @type {ReplyPoint | undefined} */ (caret?.anchor);
   const block = point === undefined ? null : blockAt(hosts, point);
-  if (!point || block === null) return { hasBefore: false, hasBehind: false, isItem: false };
+  if (!point || block === null) return { hasBefore: false, hasBehind: false, isItem: false, isInLink: false };
   return {
     hasBefore: isBefore(hosts, edgeOf(block, true), point),
     hasBehind: isBefore(hosts, point, edgeOf(block, false)),
     isItem: block.tag === 'li',
+    isInLink: isInLink(hosts, caret),
   };
+}
+
+/**
+ * @param {Hosts} hosts
+ * @param {Selection} caret
+ */
+function isInLink(hosts, caret) {
+  return linksIn(hosts, caret).length > 0;
 }

@@ -10,7 +10,7 @@ import { documentOf, documentOfText } from './slices.js';
 /** @typedef {import('./page.js').Page} Page */
 /** @typedef {import('../replies.js').Document} Document */
 /** @typedef {{ text: string, type: string, lost?: string[] }} Written */
-/** @typedef {{ documents(): { id: string, at: number, title: string }[], open(id?: string): void }} Kept */
+/** @typedef {{ others(): { id: string, at: number, title: string }[], open(id?: string): void }} Kept */
 
 const MOST_KEPT = 8; // documents of the browser's storage that the menu shows
 
@@ -64,7 +64,7 @@ export function files(page, element, kept) {
     event.preventDefault();
     commands[name]();
   });
-  return { read: (/** @type {File} */ file) => read(page, file), save: (/** @type {string} */ kind) => save(page, kind) };
+  return { read: (/** @type {File} */ file) => read(page, file) };
 }
 
 /**
@@ -76,7 +76,7 @@ function menuOf(commands, kept) {
   button.type = 'button';
   button.className = 'tool files';
   button.textContent = 'File';
-  const [, ...others] = (kept?.documents() ?? []).slice(0, MOST_KEPT);
+  const others = (kept?.others() ?? []).slice(0, MOST_KEPT);
   const items = [
     { name: 'new', label: 'New' },
     { name: 'open', label: 'Open…', keys: 'Mod+O' },
@@ -85,7 +85,7 @@ function menuOf(commands, kept) {
     { name: 'html', label: 'Save as HTML' },
     { name: 'md', label: 'Save as Markdown' },
     ...(others.length > 0 ? [null] : []),
-    ...others.map(({ id, title, at }) => ({ name: `kept ${id}`, label: `${title || 'Untitled'}, ${dayOf(at)}` })),
+    ...others.map(({ id, title, at }) => ({ name: `kept ${id}`, label: labelOf(title, at) })),
   ];
   const choose = (/** @type {string} */ name) => {
     if (name.startsWith('kept ')) kept?.open(name.slice('kept '.length));
@@ -94,8 +94,14 @@ function menuOf(commands, kept) {
   return [button, menu(button, { label: 'File', items, choose })];
 }
 
-/** @param {number} at */
-const dayOf = at => new Date(at).toLocaleDateString(undefined, { day: 'numeric', month: 'short' });
+/**
+ * @param {string} title
+ * @param {number} at
+ */
+function labelOf(title, at) {
+  const day = new Date(at).toLocaleDateString(undefined, { day: 'numeric', month: 'short' });
+  return `${title.slice(0, 40) || 'Untitled'}, ${day}`;
+}
 
 /**
  * An empty document: one of its own where documents are kept, and else in the place of this one.
@@ -183,6 +189,7 @@ async function save(page, kind) {
   link.click();
   setTimeout(() => URL.revokeObjectURL(link.href), 60_000); // once the browser has read it
   if (lost.length > 0) page.notify(`Saved.${without(lost)}`);
+  page.focus();
 }
 
 /** @param {Page} page */

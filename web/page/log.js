@@ -63,7 +63,13 @@ export class Log {
 
   /** @returns {Line[]} */
   get lines() {
-    return this.#pieces.join('').split('\n').filter(text => text !== '').map(text => JSON.parse(text));
+    return this.#pieces.join('').split('\n').flatMap(text => {
+      try {
+        return [JSON.parse(text)];
+      } catch {
+        return []; // behind the last line end, or something else has written here
+      }
+    });
   }
 
   /** How many characters it has. */
@@ -71,7 +77,7 @@ export class Log {
     return this.#pieces.reduce((sum, piece) => sum + piece.length, 0);
   }
 
-  /** Whether it begins with a document that is loaded, instead of the lines that made it. */
+  /** Whether it has begun anew, and no line has been added since. */
   get isAnew() {
     return this.#head.isAnew;
   }
@@ -116,6 +122,7 @@ export class Log {
       throw error;
     }
     this.#pieces.splice(at, 1, ...added);
+    this.#head = { ...this.#head, isAnew: false }; // whoever goes on with it knows
     this.#writeHead(title);
   }
 

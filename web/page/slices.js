@@ -5,9 +5,9 @@
 /** @typedef {import('../lines.js').Step} Step */
 /** @typedef {Record<string, any> & { type: string, children?: Node[] }} Node */
 /**
- * Where something is pasted: whether there is anything in the block before the place and behind it, and whether the
- * block is an item.
- * @typedef {{ hasBefore: boolean, hasBehind: boolean, isItem: boolean }} Place
+ * Where something is pasted: whether there is anything in the block before the place and behind it, and whether it is
+ * in an item, and in a link.
+ * @typedef {{ hasBefore: boolean, hasBehind: boolean, isItem: boolean, isInLink: boolean }} Place
  */
 /** @typedef {{ nodes: Node[], depth: number }} TextLine */
 
@@ -124,8 +124,8 @@ function stepsOfLine(line) {
 const paste = nodes => nodes.length === 0 ? [] : [{ do: 'paste', payload: JSON.stringify(sliceOf(nodes)) }];
 
 /**
- * The steps that paste a slice. The core puts blocks between blocks. As people know it, a paragraph that is first goes on
- * with the text before the caret, and one that is last with the text behind it; and in a list each line is an item.
+ * The steps that paste a slice. The core puts blocks between blocks. As people know it, a paragraph that is first goes
+ * on with the text before the caret, and one that is last with the text behind it; and in a list each line is an item.
  * @param {Slice} slice
  * @param {Place} place
  * @returns {Step[]}
@@ -133,23 +133,30 @@ const paste = nodes => nodes.length === 0 ? [] : [{ do: 'paste', payload: JSON.s
 export function stepsOfSlice({ nodes }, place) {
   const [first, ...others] = /** @type {Node[]} */ (nodes);
   if (first === undefined) return [];
-  if (nodes.every(isInline)) return paste(nodes);
+  const pasteInline = (/** @type {Node[]} */ inlines) => paste(place.isInLink ? withoutLinks(inlines) : inlines);
+  if (nodes.every(isInline)) return pasteInline(nodes);
   if (place.isItem) {
     const lines = linesOf(nodes);
     if (lines !== null) return itemsOf(lines);
   }
   const isFilled = place.hasBefore || place.hasBehind;
   if (others.length === 0 && isTextBlock(first) && (isFilled || first.type === 'paragraph' && !first.format)) {
-    return paste(childrenOf(first));
+    return pasteInline(childrenOf(first));
   }
   if (!place.hasBefore || place.isItem) return paste(nodes);
   const last = others.at(-1);
   const isJoined = place.hasBehind && last?.type === 'paragraph' && childrenOf(last).length > 0;
   return [
-    ...(first.type === 'paragraph' ? [...paste(childrenOf(first)), ...paste(others)] : paste(nodes)),
+    ...(first.type === 'paragraph' ? [...pasteInline(childrenOf(first)), ...paste(others)] : paste(nodes)),
     ...(isJoined ? [/** @type {Step} */ ({ do: 'delete-character', payload: 'forward' })] : []),
   ];
 }
+
+/**
+ * Inlines with the content of links in the place of these: no link may be in another.
+ * @param {Node[]} nodes
+ */
+const withoutLinks = nodes => nodes.flatMap(node => node.type === 'link' ? childrenOf(node) : [node]);
 
 /**
  * The lines of blocks of text and of lists, as items have them; null where there is anything else.

@@ -23,7 +23,8 @@ export function storage() {
 /** @returns {Storage | null} */
 function storeHere() {
   try {
-    return localStorage.length >= 0 ? localStorage : null;
+    sessionStorage.getItem(here);
+    return localStorage;
   } catch {
     return null; // the browser forbids it
   }
@@ -37,7 +38,7 @@ class Nothing {
   /** @type {Line[]} */
   log = [];
 
-  documents() {
+  others() {
     return [];
   }
 
@@ -69,10 +70,9 @@ class Kept {
   /** @param {Storage} store */
   constructor(store) {
     this.#store = store;
-    // What a tab had is taken away until the tab is left: a duplicate of a tab is another tab, and has nothing yet.
     const { tab = newName(), id } = JSON.parse(sessionStorage.getItem(here) ?? '{}');
-    sessionStorage.removeItem(here);
     this.#tab = tab;
+    forgetTab();
     const ids = id === undefined ? documentsIn(store).map(document => document.id) : [id];
     const logs = ids.map(one => new Log(store, one, tab));
     this.#log = logs.find(log => !log.isHeldElsewhere) ?? logs[0] ?? new Log(store, newName(), tab);
@@ -85,9 +85,9 @@ class Kept {
     return this.#log.lines;
   }
 
-  /** The documents that are kept, the one that changed last first. */
-  documents() {
-    return documentsIn(this.#store);
+  /** The other documents that are kept, the one that changed last first. */
+  others() {
+    return documentsIn(this.#store).filter(({ id }) => id !== this.#log.id);
   }
 
   /**
@@ -118,7 +118,9 @@ class Kept {
     });
     setInterval(() => this.#hold(), HOLD);
     addEventListener('visibilitychange', () => {
-      if (document.visibilityState === 'hidden') this.#write(page);
+      if (document.visibilityState === 'visible') return forgetTab();
+      this.#write(page); // it may be the last moment: browsers drop tabs in the background without a word
+      this.#rememberTab();
     });
     addEventListener('pagehide', () => this.#leave(page));
     addEventListener('pageshow', event => {
@@ -190,11 +192,20 @@ class Kept {
     try {
       if (this.#log.size > LONG && this.#log.isOurs) this.#begin(page);
       this.#log.release();
-      sessionStorage.setItem(here, JSON.stringify({ tab: this.#tab, id: this.#next }));
     } catch {
       // There is no room. What was written stays.
     }
+    this.#rememberTab();
   }
+
+  #rememberTab() {
+    sessionStorage.setItem(here, JSON.stringify({ tab: this.#tab, id: this.#next }));
+  }
+}
+
+/** While a tab is seen nothing tells its name, since a duplicate of it is another tab. */
+function forgetTab() {
+  sessionStorage.removeItem(here);
 }
 
 /**

@@ -76,6 +76,12 @@ test('one paragraph goes into the text, as do texts', () => {
   assert.equal(pasted([paragraph('')], { slice: sliceOf([heading('x')]) }), '## x|');
 });
 
+test('a link that is pasted into a link is its text', () => {
+  const link = words => ({ type: 'link', url: 'https://example.org', children: [text(words)] });
+  assert.equal(pasted([{ ...paragraph(''), children: [link('on|e')] }], { slice: sliceOf([link('x')]) }), 'onx|e');
+  assert.equal(pasted([paragraph('on|e')], { slice: sliceOf([paragraph('x'), paragraph('y')]) }), 'onx / y|e');
+});
+
 test('of several blocks the first goes on with what is before, and the last with what is behind', () => {
   const slice = sliceOf([paragraph('x'), heading('y'), paragraph('z')]);
   assert.equal(pasted([paragraph('on|e'), paragraph('two')], { slice }), 'onx / ## y / z|e / two');

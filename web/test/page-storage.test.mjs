@@ -53,9 +53,10 @@ test('a log that begins anew leaves nothing of the old one', () => {
   const store = new Store(), log = new Log(store, 'a', 'one');
   log.append(long, '');
   log.begin([typed('x')], '', true);
+  assert.ok(new Log(store, 'a', 'two').isAnew);
   log.append([typed('y')], '');
   const read = new Log(store, 'a', 'two');
-  assert.deepEqual([read.lines, read.isAnew, pieces(store).length], [[typed('x'), typed('y')], true, 1]);
+  assert.deepEqual([read.lines, read.isAnew, pieces(store).length], [[typed('x'), typed('y')], false, 1]);
 });
 
 test('where there is no room, what was kept stays', () => {
