@@ -1,5 +1,7 @@
 // A button for a new table, with a grid below it in which one shows how large the table is to be.
+import { indexOf, isBlock } from '../hosts-order.js';
 import { popup } from './popup.js';
+import { blockAt, isCaret, placesOf } from './ranges.js';
 import { headerSteps } from './table-headers.js';
 import { tool } from './tools.js';
 
@@ -30,7 +32,8 @@ export function tableSize(page) {
   async function insert(index) {
     panel.hidePopover();
     const [rows, columns] = sizeAt(index);
-    const [{ refused }] = await page.act({ dispatch: 'insert-table', payload: [rows, columns, false] });
+    const step = { dispatch: 'insert-table', payload: [rows, columns, false] };
+    const [{ refused }] = await page.act({ update: [step, ...emptyAway(page)] });
     if (!refused) await page.act({ tags: ['history-merge'], update: headerSteps(page, 'row') });
     page.focus();
   }
@@ -54,6 +57,14 @@ export function tableSize(page) {
     cells.find((_, index) => String(sizeAt(index)) === String([rows + down, columns + right]))?.focus();
   });
   return [button, panel];
+}
+
+/** The step that removes an empty paragraph with the caret: the table takes its place. One has to be before a table. */
+function emptyAway(page) {
+  const { hosts } = page.view, selection = page.selected ?? placesOf(page.selection);
+  const block = isCaret(selection) ? blockAt(hosts, selection.anchor) : null;
+  const isEmpty = block?.tag === 'p' && block.children.length === 0;
+  return isEmpty && indexOf(block) > 0 && isBlock(block.parent.children[indexOf(block) - 1]) ? [{ remove: block.key }] : [];
 }
 
 /** The rows and columns of the table whose last cell is a cell of the grid. */
