@@ -1,0 +1,23 @@
+// What is typed at the edge of a link isn't meant for the link.
+import { indexOf } from '../hosts-order.js';
+import { linkOf } from './link-lines.js';
+import { caretAt, isCaret } from './ranges.js';
+
+/** @typedef {import('../hosts.js').Hosts} Hosts */
+/** @typedef {import('../lines.js').Selection} Selection */
+
+/**
+ * The place outside of a link for a caret at its start or its end; any other selection is as it was.
+ * @param {Hosts} hosts
+ * @param {Selection} selection
+ * @returns {Selection}
+ */
+export function outsideLink(hosts, selection) {
+  if (!isCaret(selection) || selection.anchor[2] !== 'text') return selection;
+  const [key, offset] = selection.anchor, host = hosts.ofKey(key), link = linkOf(host ?? null);
+  if (!link) return selection;
+  const { children } = link, isAtStart = offset === 0 && host === children[0];
+  const isAtEnd = offset === host.text.length && host === children[children.length - 1];
+  if (!isAtStart && !isAtEnd) return selection;
+  return { ...selection, ...caretAt([link.parent.key, indexOf(link) + (isAtEnd ? 1 : 0), 'element']) };
+}
