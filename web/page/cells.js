@@ -66,7 +66,7 @@ const meets = (one, other) => one.top <= other.bottom && other.top <= one.bottom
   one.left <= other.right && other.left <= one.right;
 
 /**
- * The steps that empty cells, and put the caret into the first.
+ * The steps that empty cells, or the whole document, and put the caret into the first.
  * @param {Host[]} cells
  * @returns {Step[]}
  */

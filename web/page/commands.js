@@ -6,7 +6,7 @@ import { cellAt, cellsIn, emptied, formatted, nextCell, tableOf, tableRemoved } 
 import { formatBits, formatOf } from './formats.js';
 import { linked, linksIn, unlinked } from './link-lines.js';
 import { outsideLink } from './outside-links.js';
-import { blockAt, caretAt, isCaret, isRange, linesIn, textsIn, within } from './ranges.js';
+import { blockAt, caretAt, inOrder, isCaret, isRange, linesIn, textsIn, within } from './ranges.js';
 import { blockCommands } from './rules.js';
 
 /** @typedef {import('../hosts.js').Host} Host */
@@ -66,6 +66,7 @@ export function meantBy(hosts, line, selected, format) {
 function ofCore(place, line) {
   const { hosts, selection, cells, payload } = place, { dispatch: name } = line;
   if (cells.length > 0) return overCells(cells, selection, line);
+  if (deleting.has(name) && isAll(hosts, selection)) return { update: emptied([hosts.root]) };
   if (name === 'delete-character' && payload === 'back') {
     const lifting = liftedBy(hosts, selection);
     if (lifting === 'outdent') return { dispatch: 'outdent' };
@@ -73,6 +74,12 @@ function ofCore(place, line) {
   }
   const isBetweenBlocks = inserting.has(name) && isRange(selection) && hasNoBlock(hosts, selection);
   return isBetweenBlocks ? { update: [{ dispatch: 'insert-paragraph' }, line] } : line;
+}
+
+/** Whether a range is all of the document: where that goes, a paragraph is left, whatever the first block was. */
+function isAll(hosts, selection) {
+  if (!isRange(selection) || isCaret(selection)) return false;
+  return String(inOrder(hosts, selection)) === String([edgeOf(hosts.root, true), edgeOf(hosts.root, false)]);
 }
 
 function hasNoBlock(hosts, selection) {
