@@ -7,7 +7,7 @@ import { cellsIn } from './cells.js';
 import { sliceOfCells, stepsIntoCells } from './copied-cells.js';
 import { linksIn } from './link-lines.js';
 import { outsideLink } from './outside-links.js';
-import { blockAt, caretAt, isCaret, placesOf } from './ranges.js';
+import { blockAt, caretAt, inOrder, isCaret, isRange, placesOf } from './ranges.js';
 import { isEmpty, stepsOfSlice, stepsOfText, textOf } from './slices.js';
 
 /** @typedef {import('./page.js').Page} Page */
@@ -16,7 +16,7 @@ import { isEmpty, stepsOfSlice, stepsOfText, textOf } from './slices.js';
 /** @typedef {import('../lines.js').Selection} Selection */
 /** @typedef {import('../lines.js').Step} Step */
 /** @typedef {import('../replies.js').ReplyPoint} ReplyPoint */
-/** @typedef {{ slice?: Slice, text?: string }} Content */
+/** @typedef {{ slice?: import('./slices.js').Copied, text?: string }} Content */
 
 /** The type under which a slice is on the clipboard. Browsers pass it on to their own pages. */
 export const sliceType = 'application/x-vaultsatin+json';
@@ -92,10 +92,20 @@ export function put(page, data, event) {
   const slice = sliceNow(page);
   if (slice === null || data === null) return false;
   event?.preventDefault();
-  data.setData(sliceType, JSON.stringify(slice));
+  data.setData(sliceType, JSON.stringify({ ...slice, ...openness(page) }));
   data.setData('text/html', htmlFromDocument(slice));
   data.setData('text/plain', textOf(slice.nodes));
   return true;
+}
+
+/**
+ * Whether a range begins in the midst of a block, and whether it ends in one.
+ * @param {Page} page
+ */
+function openness({ selected, view: { hosts } }) {
+  if (!isRange(selected)) return {};
+  const [start, end] = inOrder(hosts, selected).map(point => placeAround(hosts, caretAt(point)));
+  return { isStartOpen: start.hasBefore, isEndOpen: end.hasBehind };
 }
 
 /**

@@ -10,6 +10,10 @@
  * @typedef {{ hasBefore: boolean, hasBehind: boolean, isItem: boolean, isInLink: boolean }} Place
  */
 /** @typedef {{ nodes: Node[], depth: number }} TextLine */
+/**
+ * A slice, and whether of its first block only the rear was copied, and of its last only the front.
+ * @typedef {Slice & { isStartOpen?: boolean, isEndOpen?: boolean }} Copied
+ */
 
 const inlineTypes = new Set(['text', 'tab', 'linebreak', 'link', 'embed']);
 const textBlocks = new Set(['paragraph', 'heading', 'quote']);
@@ -126,11 +130,12 @@ const paste = nodes => nodes.length === 0 ? [] : [{ do: 'paste', payload: JSON.s
 /**
  * The steps that paste a slice. The core puts blocks between blocks. As people know it, a paragraph that is first goes
  * on with the text before the caret, and one that is last with the text behind it; and in a list each line is an item.
- * @param {Slice} slice
+ * Parts of blocks do so wherever they can: what was cut is whole again once it is pasted where it was.
+ * @param {Copied} slice
  * @param {Place} place
  * @returns {Step[]}
  */
-export function stepsOfSlice({ nodes }, place) {
+export function stepsOfSlice({ nodes, isStartOpen = false, isEndOpen = false }, place) {
   const [first, ...others] = /** @type {Node[]} */ (nodes);
   if (first === undefined) return [];
   const pasteInline = (/** @type {Node[]} */ inlines) => paste(place.isInLink ? withoutLinks(inlines) : inlines);
@@ -143,12 +148,14 @@ export function stepsOfSlice({ nodes }, place) {
   if (others.length === 0 && isTextBlock(first) && (isFilled || first.type === 'paragraph' && !first.format)) {
     return pasteInline(childrenOf(first));
   }
-  if (!place.hasBefore || place.isItem) return paste(nodes);
-  const last = others.at(-1);
-  const isJoined = place.hasBehind && last?.type === 'paragraph' && childrenOf(last).length > 0;
+  if (place.isItem) return paste(nodes);
+  const last = others.at(-1) ?? first;
+  const isFirstJoined = place.hasBefore && (isStartOpen ? isTextBlock(first) : first.type === 'paragraph');
+  const isLastJoined = place.hasBehind && childrenOf(last).length > 0
+    && (isEndOpen ? isTextBlock(last) : place.hasBefore && last.type === 'paragraph');
   return [
-    ...(first.type === 'paragraph' ? [...pasteInline(childrenOf(first)), ...paste(others)] : paste(nodes)),
-    ...(isJoined ? [/** @type {Step} */ ({ do: 'delete-character', payload: 'forward' })] : []),
+    ...(isFirstJoined ? [...pasteInline(childrenOf(first)), ...paste(others)] : paste(nodes)),
+    ...(isLastJoined ? [/** @type {Step} */ ({ do: 'delete-character', payload: 'forward' })] : []),
   ];
 }
 

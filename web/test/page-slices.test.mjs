@@ -87,6 +87,9 @@ test('of several blocks the first goes on with what is before, and the last with
   assert.equal(pasted([paragraph('on|e'), paragraph('two')], { slice }), 'onx / ## y / z|e / two');
   assert.equal(pasted([paragraph('one|'), paragraph('two')], { slice }), 'onex / ## y / z| / two');
   assert.equal(pasted([paragraph('|one')], { slice }), 'x / ## y / z| / one');
+  assert.equal(pasted([paragraph('|one')], { slice: { ...slice, isEndOpen: true } }), 'x / ## y / z|one');
+  const parts = { ...sliceOf([heading('x'), heading('y')]), isStartOpen: true, isEndOpen: true };
+  assert.equal(pasted([paragraph('on|e')], { slice: parts }), 'onx / ## y|e');
   assert.equal(pasted([paragraph('')], { slice }), 'x / ## y / z|');
   assert.equal(pasted([paragraph('o|n'), paragraph('t|wo')], { slice }), 'ox / ## y / z|wo');
 });
