@@ -1,0 +1,45 @@
+// Keeps the caret in sight. A browser scrolls to what it types itself; here it types nothing.
+
+const ROOM = 24; // pixels that are left between the caret and the edge of what can be seen
+
+/** @param {import('./page.js').Page} page */
+export function keepInSight(page) {
+  let isWanted = false, isWaiting = false;
+  page.on('told', ({ line, reply }) => {
+    if (reply.ops) isWanted = line.dispatch !== 'select-all'; // that leaves the window where it is
+  });
+  page.on('settled', () => {
+    if (!isWanted || isWaiting) return;
+    isWaiting = true;
+    requestAnimationFrame(() => {
+      isWanted = isWaiting = false;
+      scrollToCaret(page);
+      requestAnimationFrame(() => scrollToCaret(page)); // blocks that came in sight may have another height than guessed
+    });
+  });
+}
+
+/** @param {import('./page.js').Page} page */
+function scrollToCaret(page) {
+  const place = page.view.element.contains(getSelection().focusNode) && placeOfCaret(getSelection());
+  if (!place) return;
+  const bars = [...document.querySelectorAll('#bar, .table-bar')].map(bar => bar.getBoundingClientRect().bottom);
+  const ceiling = Math.max(0, ...bars) + ROOM / 2, floor = document.documentElement.clientHeight - ROOM;
+  const tooHigh = place.top - ceiling, tooLow = place.bottom - floor;
+  if (tooHigh < 0) scrollBy({ top: tooHigh, behavior: 'instant' });
+  else if (tooLow > 0) scrollBy({ top: Math.min(tooLow, tooHigh), behavior: 'instant' });
+}
+
+/**
+ * The place of the end of a selection that moves. In an empty block it has none of its own, and then that is the block's.
+ * @param {Selection} selection
+ * @returns {DOMRect}
+ */
+export function placeOfCaret({ focusNode, focusOffset }) {
+  const caret = document.createRange();
+  caret.setStart(focusNode, focusOffset);
+  const place = caret.getBoundingClientRect();
+  if (place.height > 0) return place;
+  const around = focusNode.nodeType === Node.ELEMENT_NODE ? focusNode : focusNode.parentElement;
+  return (around.children[focusOffset] ?? around.lastElementChild ?? around).getBoundingClientRect();
+}
