@@ -5,7 +5,8 @@
 //     node web/build/page.mjs --check    says whether it is what would be made
 //
 // Each script becomes a function that answers what it exports, behind those that it imports. So there is one script,
-// and no name of one meets that of another. Scripts that import each other in a circle can't be put in order.
+// and no name of one meets that of another. Scripts that import each other in a circle can't be put in order. What they
+// say of types is left out.
 import { existsSync, readFileSync, writeFileSync } from 'node:fs';
 import { dirname, join, relative } from 'node:path';
 import { fileURLToPath } from 'node:url';
@@ -20,7 +21,8 @@ const fromOther = /^(import|export) (\{[^}]*\}|\* as \w+|\*|\w+) from '(\.[^']+)
 const forEffect = /^import '(\.[^']+)';[^\n]*\n/gm;
 const declared = /^export ((?:async )?function\*?|class|const) (\w+)/gm;
 const listed = /^export \{([^}]*)\};[^\n]*\n/gm;
-const dynamic = /\bawait import\('(\.[^']+)'\)/g; // types in comments have no `await`
+const ofTypes = /^[ \t]*\/\*\*(?:(?!\*\/)[^])*\*\/[ \t]*\n/gm; // comments with lines of their own
+const dynamic = /\bawait import\('(\.[^']+)'\)/g;
 
 /** What a script is called in the file: names of files have no underscore. */
 const nameOf = file => `$${file.replace(/\.js$/, '').replace(/[^a-z0-9]/gi, '_')}`;
@@ -43,6 +45,7 @@ function gather(file, gathered, waiting = []) {
   };
   const answered = [];
   const body = read(file)
+    .replace(ofTypes, '')
     .replace(fromOther, (_, word, names, path) => {
       const from = at(path);
       if (word === 'import') return importOf(names, from);
@@ -94,6 +97,7 @@ function packedBytes() {
 export function pageText() {
   const packed = `<script type="application/gzip" id="lexical-wasm">\n${packedBytes()}</script>`;
   return read('index.html')
+    .replace('<title>', `<!-- web/build/page.mjs makes this file of others in web/: change nothing here. -->\n<title>`)
     .replace(/<link rel="stylesheet" href="([^"]+)">/g, (_, file) => `<style>\n${read(file).trim()}\n</style>`)
     .replace(/<script type="module" src="([^"]+)"><\/script>/, (_, file) => (
       `${packed}\n<script type="module">\n${scriptOf(file)}</script>`

@@ -132,8 +132,9 @@ class Page:
         """Waits until one can type."""
         end = time.monotonic() + 60
         while not self.driver.execute_script('return Boolean(window.page?.view)'):  # an element has the id, too
-            if time.monotonic() > end:
-                raise TimeoutError(f'the page does not open: {self.messages()}')
+            messages = self.messages()
+            if messages or time.monotonic() > end:
+                raise TimeoutError(f'the page does not open: {messages}')
             time.sleep(0.02)
         self.driver.execute_script(NOTICES)
 
@@ -261,6 +262,12 @@ class Page:
         else:
             self.driver.execute_script('arguments[0].click()', found[0])
         self.rest()
+
+    def picture(self, scheme, file):
+        """A picture by day or by night: `light` or `dark`."""
+        feature = {'name': 'prefers-color-scheme', 'value': scheme}
+        self.driver.execute_cdp_cmd('Emulation.setEmulatedMedia', {'features': [feature]})
+        self.driver.save_screenshot(file)
 
     def act(self, line):
         return self.driver.execute_async_script('page.act(arguments[0]).then(arguments[1])', line)

@@ -7,6 +7,8 @@ import json
 import re
 import sys
 
+from selenium.webdriver.common.by import By
+
 from browser import WEB, Results, json_of, opened
 
 PARTS = {'state', 'history'}
@@ -133,12 +135,25 @@ def two_tabs(page, results):
     results.add('two tabs', found)
 
 
+def looked_into(page, results):
+    """The core at work, opened by its button, tells of what is typed."""
+    page.anew()
+    page.driver.find_element(By.CLASS_NAME, 'inspector-button').click()
+    page.type('seen')
+    page.rest()
+    panel = page.driver.find_element(By.CLASS_NAME, 'inspector').text
+    wanted = ('text "seen"', 'caret at 4', 'insert-text')
+    found = [f'{word!r} is not in {panel!r}' for word in wanted if word not in panel]
+    results.add('the core at work', found + page.faults())
+
+
 def main():
     results = Results()
     with opened() as page:
         pasted_samples(page, results)
         copied(page, results)
         reloaded(page, results)
+        looked_into(page, results)
         two_tabs(page, results)
         status = results.end(page)
     results = Results()

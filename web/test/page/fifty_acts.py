@@ -1,7 +1,7 @@
 #!/usr/bin/env python3
 """Drives the page through some fifty acts, and says whether the page shows what the core has.
 
-    web/test/page/fifty_acts.py [--picture day.png] [--place file:///../web/playground.html]
+    web/test/page/fifty_acts.py [--pictures day.png night.png] [--place file:///../web/playground.html]
 
 After each act the document's HTML has to be that of {"show":"view"}, the browser's selection that of
 {"show":"selection"}, and the HTML, or the notice that came, has to have the words that the act tells. In these words no
@@ -114,6 +114,9 @@ ALL = [
     ('undo of the cut, and what is bold is pasted', lambda page: (
         page.press('control+z'), page.paste_of(page.copied('text', 0, 'text', 4), 'Plan')),
      '<span>Plan</span><mark'),
+    ('what an extension puts in is taken back', lambda page: page.driver.execute_script(
+        'page.view.element.firstChild.append("junk"); page.view.element.append(document.createElement("b"))'),
+     '</p></div>'),
     ('all goes', lambda page: page.keys(['control+a', 'delete']), '<div><p><br></p></div>'),
     ('and comes back', lambda page: page.press('control+z'), '</table><p>'),
 ]
@@ -134,7 +137,7 @@ def faults(page, expected):
 def main():
     parser = argparse.ArgumentParser(description='Drives the page through some fifty acts.')
     parser.add_argument('--place', help='the address of the page, if it is not to be served from web/')
-    parser.add_argument('--picture', help='where to put a picture of the page with its list and its table')
+    parser.add_argument('--pictures', nargs=2, help='where to put pictures of the page with its list and its table')
     words = parser.parse_args()
     results = Results()
     with opened(words.place) as page:
@@ -146,8 +149,9 @@ def main():
             except (WebDriverException, LookupError) as error:  # what the act needs isn't there
                 found = [str(error).split('\n')[0]]
             results.add(name, found)
-            if name == 'a row and a column' and words.picture:
-                page.driver.save_screenshot(words.picture)
+            if name == 'a row and a column' and words.pictures:
+                for scheme, file in zip(['light', 'dark'], words.pictures):
+                    page.picture(scheme, file)
         return results.end(page)
 
 

@@ -1,7 +1,7 @@
 #!/usr/bin/env python3
 """Types as people do, without waiting for the page: some sessions whose outcome is known, and random ones.
 
-    web/test/page/typing_acts.py [--sessions 1] [--acts 100] [--seed 1] [--paces 10,30,90]
+    web/test/page/typing_acts.py [--sessions 1] [--acts 60] [--seed 1] [--paces 10,30,90]
 
 A random session is done so often: once with a rest after each act, and once at each pace. Each time the page has to
 show what the core has, and the document has to be the same. The page's clock goes on by keys and clicks alone, so that
@@ -77,7 +77,7 @@ def differences(shown, expected):
 def main():
     parser = argparse.ArgumentParser(description='Types as people do, without waiting for the page.')
     parser.add_argument('--sessions', type=int, default=1, help='how many random ones')
-    parser.add_argument('--acts', type=int, default=100, help='of each')
+    parser.add_argument('--acts', type=int, default=60, help='of each')
     parser.add_argument('--seed', type=int, default=1)
     parser.add_argument('--paces', default='10,30,90', help='milliseconds a key')
     words = parser.parse_args()
