@@ -165,7 +165,9 @@ function sliceIn(page, data) {
   if (html === '') return null;
   try {
     const slice = /** @type {Slice} */ (sliceFromHtml(html)); // at once, since this is a page
-    return isEmpty(slice) ? null : slice;
+    if (isEmpty(slice)) return null;
+    if (/<img\b/i.test(html)) page.notify('Pictures were left out: their descriptions stand for them.');
+    return slice;
   } catch (error) {
     if (!(error instanceof ContentError)) throw error;
     page.notify('The formatted text is too large, or nests too deep. Its plain text is taken.');

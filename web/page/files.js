@@ -10,7 +10,10 @@ import { documentOf, documentOfText } from './slices.js';
 /** @typedef {import('./page.js').Page} Page */
 /** @typedef {import('../replies.js').Document} Document */
 /** @typedef {{ text: string, type: string, lost?: string[] }} Written */
-/** @typedef {{ others(): { id: string, at: number, title: string }[], open(id?: string): void }} Kept */
+/**
+ * The documents of a browser's storage. One that keeps nothing opens none.
+ * @typedef {{ others(): { id: string, at: number, title: string }[], open?(id?: string): void, forget?(): void }} Kept
+ */
 
 const MOST_KEPT = 8; // documents of the browser's storage that the menu shows
 
@@ -39,7 +42,7 @@ const endings = { json: 'json', htm: 'html', html: 'html', xhtml: 'html', md: 'm
  * Puts a menu of files into an element.
  * @param {Page} page
  * @param {HTMLElement} [element]
- * @param {Kept} [kept] the documents of the browser's storage
+ * @param {Kept} [kept]
  */
 export function files(page, element, kept) {
   const chooser = document.createElement('input');
@@ -56,6 +59,7 @@ export function files(page, element, kept) {
     json: () => save(page, 'json'),
     html: () => save(page, 'html'),
     md: () => save(page, 'md'),
+    delete: () => forget(page, kept),
   };
   if (element) element.append(...menuOf(commands, kept));
   document.addEventListener('keydown', event => {
@@ -84,11 +88,12 @@ function menuOf(commands, kept) {
     { name: 'json', label: 'Save as JSON', keys: 'Mod+S' },
     { name: 'html', label: 'Save as HTML' },
     { name: 'md', label: 'Save as Markdown' },
+    ...(kept?.forget ? [null, { name: 'delete', label: 'Delete this document…' }] : []),
     ...(others.length > 0 ? [null] : []),
     ...others.map(({ id, title, at }) => ({ name: `kept ${id}`, label: labelOf(title, at) })),
   ];
   const choose = (/** @type {string} */ name) => {
-    if (name.startsWith('kept ')) kept?.open(name.slice('kept '.length));
+    if (name.startsWith('kept ')) kept?.open?.(name.slice('kept '.length));
     else commands[name]();
   };
   return [button, menu(button, { label: 'File', items, choose })];
@@ -109,8 +114,16 @@ function labelOf(title, at) {
  * @param {Kept} [kept]
  */
 function begin(page, kept) {
-  if (kept) kept.open();
+  if (kept?.open) kept.open();
   else load(page, documentOf([]));
+}
+
+/**
+ * @param {Page} page
+ * @param {Kept} [kept]
+ */
+function forget(page, kept) {
+  if (confirm(`Delete “${titleOf(page)}” from this browser? This can’t be undone.`)) kept?.forget?.();
 }
 
 /**

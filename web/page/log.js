@@ -167,6 +167,14 @@ export class Log {
     return copy;
   }
 
+  /** Nothing of it is kept any longer. */
+  remove() {
+    this.#remove(this.#head.generation, this.#pieces);
+    this.#pieces = [];
+    this.#store.removeItem(keyOf(this.id));
+    this.#store.removeItem(keyOf(this.id, 'held'));
+  }
+
   /** @param {string} title */
   #writeHead(title) {
     this.#head = { ...this.#head, at: this.#now(), title };

@@ -42,10 +42,6 @@ class Nothing {
     return [];
   }
 
-  open() {
-    location.reload();
-  }
-
   /** @param {Page} page */
   keep(page) {
     page.notify('This browser keeps nothing here. Save what you write as a file.');
@@ -97,6 +93,14 @@ class Kept {
   open(id = newName()) {
     this.#next = id;
     location.reload();
+  }
+
+  /** Forgets the document, and opens another one. */
+  forget() {
+    this.#waiting = [];
+    this.#isChanged = false;
+    this.#log.remove();
+    this.open(this.others()[0]?.id);
   }
 
   /**

@@ -59,6 +59,14 @@ test('a log that begins anew leaves nothing of the old one', () => {
   assert.deepEqual([read.lines, read.isAnew, pieces(store).length], [[typed('x'), typed('y')], false, 1]);
 });
 
+test('of a log that is removed nothing is left', () => {
+  const store = new Store(), log = new Log(store, 'a', 'one');
+  log.hold();
+  log.append(long, '');
+  log.remove();
+  assert.equal(store.size, 0);
+});
+
 test('where there is no room, what was kept stays', () => {
   const store = new Store(), log = new Log(store, 'a', 'one');
   log.append(long, '');
