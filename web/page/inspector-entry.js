@@ -31,7 +31,7 @@ function nameOf(line) {
 
 function outcomeOf({ commit, ops, idle, refused, gathered }) {
   if (refused) return `refused: ${refused.cause}`;
-  if (commit !== undefined) return `commit ${commit}, ${ops.length} ${ops.length === 1 ? 'operation' : 'operations'}`;
+  if (commit !== undefined) return `${ops.length} ${ops.length === 1 ? 'operation' : 'operations'}`;
   if (idle) return 'nothing new';
   return gathered === undefined ? 'taken' : `${gathered} gathered`;
 }
