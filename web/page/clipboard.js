@@ -21,6 +21,9 @@ import { isEmpty, stepsOfSlice, stepsOfText, textOf } from './slices.js';
 /** The type under which a slice is on the clipboard. Browsers pass it on to their own pages. */
 export const sliceType = 'application/x-vaultsatin+json';
 
+/** A picture, other than the check marks that Google Docs has as pictures: these are read. */
+const hasPicture = /<img\b(?![^>]*\bcheckbox\b)/i;
+
 /** @param {Page} page */
 export function clipboard(page) {
   const { element } = page.view;
@@ -166,7 +169,7 @@ function sliceIn(page, data) {
   try {
     const slice = /** @type {Slice} */ (sliceFromHtml(html)); // at once, since this is a page
     if (isEmpty(slice)) return null;
-    if (/<img\b/i.test(html)) page.notify('Pictures were left out: their descriptions stand for them.');
+    if (hasPicture.test(html)) page.notify('Pictures were left out: their descriptions stand for them.');
     return slice;
   } catch (error) {
     if (!(error instanceof ContentError)) throw error;
