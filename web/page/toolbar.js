@@ -82,12 +82,20 @@ export function toolbar(page, element) {
     showState(bar, state);
     for (const { element: entries } of menus) mark(entries, name => Boolean(controls[name].isPressed?.(state)));
     dress(blockMenu.button, typeShown(state));
+    page.view.element.classList.toggle('is-empty', isEmpty(page));
     dress(alignMenu.button, controls[alignments.find(name => controls[name].isPressed(state)) ?? 'align-left']);
   });
   return bar;
 }
 
 const namesWithKeys = Object.keys(controls).filter(name => controls[name].keys);
+
+/** Whether there is one empty paragraph and nothing else. */
+function isEmpty({ view: { element, hosts } }) {
+  if (element.childElementCount !== 1) return false;
+  const [first] = hosts.root.children;
+  return first.tag === 'p' && first.children.length === 0;
+}
 
 /** The type of the block, as its menu's button shows it: there may be headings that the menu hasn't. */
 function typeShown(state) {
