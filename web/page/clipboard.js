@@ -124,7 +124,8 @@ function sliceNow(page) {
   }
   const had = page.selection;
   if (isSame(selected, had)) return editor.line({ show: 'slice' }).slice;
-  // A script has asked for the copy, so the promise of the act is still to be kept.
+  // A script has asked for the copy, so the promise of the act is still to be kept. Nobody is told of these lines: what
+  // is selected is the same after them.
   editor.line({ update: [{ select: selected }] });
   const { slice } = editor.line({ show: 'slice' });
   editor.line({ update: [{ select: placesOf(had) }] });

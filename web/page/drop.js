@@ -31,8 +31,8 @@ export function drop(page, files) {
     if (!content) return;
     const source = event.ctrlKey || event.altKey ? null : dragged;
     dragged = null;
-    if (source === null) insert(page, content, at);
-    else move(page, content, source, at);
+    const inserted = source === null ? insert(page, content, at) : move(page, content, source, at);
+    inserted.then(() => page.focus()); // what came from elsewhere was dropped without a click
   });
   dropFiles(page, files);
 }
