@@ -2,6 +2,7 @@
 import { clipboard } from './clipboard.js';
 import { drop } from './drop.js';
 import { files } from './files.js';
+import { keepInSight } from './in-sight.js';
 import { inspector } from './inspector.js';
 import { moduleHere } from './module.js';
 import { notices } from './notices.js';
@@ -18,6 +19,7 @@ notices(page, part('notices'));
 const opened = files(page, part('bar'), kept);
 toolbar(page, part('bar'));
 tableToolbar(page, part('bar'));
+keepInSight(page);
 clipboard(page);
 drop(page, opened);
 inspector(page, part('core'));
