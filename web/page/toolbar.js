@@ -9,7 +9,7 @@ import { tableSize } from './table-size.js';
 import { follow, followArrows, group, stopAt, tool, toolsSeen } from './tools.js';
 
 /** Widths in pixels from which there are buttons of level 1 and level 2. */
-const WIDTHS = [0, 600, 820];
+const WIDTHS = [0, 680, 810];
 
 const blocks = ['block-paragraph', 'block-heading-1', 'block-heading-2', 'block-heading-3', 'block-quote'];
 const lists = ['bullet', 'number', 'check'];
