@@ -28,8 +28,10 @@ def pasted_samples(page, results):
     """What other programs put on a clipboard, as web/test/samples has it."""
     for file in sorted((WEB / 'test' / 'samples').glob('*.html')):
         page.anew()
-        page.paste('this is never read', html=file.read_text())
-        found = page.faults() + page.notices()
+        html = file.read_text()
+        page.paste('this is never read', html=html)
+        notices = page.notices()  # a picture may be left out, if that is told
+        found = page.faults() + [said for said in notices if '<img' not in html or 'Pictures' not in said]
         expected = words_of(json.loads(file.with_suffix('.json').read_text()))
         here = words_of(page.ask({'show': 'state'})['state']['root'])
         if here != expected:

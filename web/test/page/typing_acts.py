@@ -1,7 +1,7 @@
 #!/usr/bin/env python3
 """Types as people do, without waiting for the page: some sessions whose outcome is known, and random ones.
 
-    web/test/page/typing_acts.py [--sessions 1] [--acts 60] [--seed 1] [--paces 10,30,90]
+    web/test/page/typing_acts.py [--sessions 2] [--acts 60] [--seed 1] [--paces 10,30,90]
 
 A random session is done so often: once with a rest after each act, and once at each pace. Each time the page has to
 show what the core has, and the document has to be the same. The page's clock goes on by keys and clicks alone, so that
@@ -39,6 +39,12 @@ KEYS = {
 }
 
 
+# What is there as every second random session begins.
+PARTS = '''<h2>Title</h2><p>One <a href="https://example.org/">link</a> and <b>bold</b>.</p>
+<ul><li>one</li><li>two</li></ul>
+<table><tr><th>a</th><th>b</th></tr><tr><td>c</td><td>d</td></tr></table><blockquote>said</blockquote><p>end</p>'''
+
+
 def session(chance, acts, area):
     """Acts by chance: mostly words, letter by letter."""
     keys = []
@@ -56,9 +62,11 @@ def session(chance, acts, area):
     return keys[:acts]
 
 
-def typed(page, keys, pause, rests=False):
-    """Has them typed in a new document: what the core has then, and what is wrong."""
+def typed(page, keys, pause, rests=False, html=None):
+    """Has them typed in a new document, or behind some HTML: what the core has then, and what is wrong."""
     page.anew()
+    if html:
+        page.paste(html=html)
     for start in range(0, len(keys), 1 if rests else 50):
         if rests:
             page.keys(keys[start:start + 1])
@@ -76,7 +84,7 @@ def differences(shown, expected):
 
 def main():
     parser = argparse.ArgumentParser(description='Types as people do, without waiting for the page.')
-    parser.add_argument('--sessions', type=int, default=1, help='how many random ones')
+    parser.add_argument('--sessions', type=int, default=2, help='how many random ones')
     parser.add_argument('--acts', type=int, default=60, help='of each')
     parser.add_argument('--seed', type=int, default=1)
     parser.add_argument('--paces', default='10,30,90', help='milliseconds a key')
@@ -95,10 +103,11 @@ def main():
                                           'return [Math.ceil(x + 8), Math.ceil(y + 8), Math.floor(width - 16), 200]')
         for seed in range(words.seed, words.seed + words.sessions):
             keys = session(random.Random(seed), words.acts, area)
-            expected, found = typed(page, keys, 0, rests=True)
+            html = PARTS if seed % 2 == 0 else None
+            expected, found = typed(page, keys, 0, rests=True, html=html)
             results.add(f'session {seed} with rests', found)
             for pace in paces:
-                shown, found = typed(page, keys, pace / 1000)
+                shown, found = typed(page, keys, pace / 1000, html=html)
                 found += differences(shown, expected)
                 results.add(f'session {seed} at {pace} ms a key', found)
         return results.end(page)
