@@ -59,7 +59,9 @@ const direction = (name, label, icon) => ({
 /** @type {Record<string, Control>} */
 export const controls = {
   'undo': { label: 'Undo', icon: 'undo', keys: 'Mod+Z', lines: () => command('undo'), isOff: state => !state.canUndo },
-  'redo': { label: 'Redo', icon: 'redo', keys: 'Mod+Shift+Z', lines: () => command('redo'), isOff: state => !state.canRedo },
+  'redo': {
+    label: 'Redo', icon: 'redo', keys: 'Mod+Shift+Z', lines: () => command('redo'), isOff: state => !state.canRedo,
+  },
 
   'block-paragraph': block('paragraph', 'Paragraph', 'Mod+Alt+0'),
   'block-heading-1': block('heading-1', 'Heading 1', 'Mod+Alt+1'),

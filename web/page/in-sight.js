@@ -14,7 +14,7 @@ export function keepInSight(page) {
     requestAnimationFrame(() => {
       isWanted = isWaiting = false;
       scrollToCaret(page);
-      requestAnimationFrame(() => scrollToCaret(page)); // blocks that came in sight may have another height than guessed
+      requestAnimationFrame(() => scrollToCaret(page)); // blocks that came in sight may be higher than was guessed
     });
   });
 }
@@ -31,7 +31,7 @@ function scrollToCaret(page) {
 }
 
 /**
- * The place of the end of a selection that moves. In an empty block it has none of its own, and then that is the block's.
+ * The place of the end of a selection that moves. In an empty block it has none of its own: then that is the line's.
  * @param {Selection} selection
  * @returns {DOMRect}
  */

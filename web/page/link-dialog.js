@@ -2,6 +2,7 @@
 import { show } from '../selection.js';
 import { addressMeant } from './addresses.js';
 import { icon } from './icons.js';
+import { placeOfCaret } from './in-sight.js';
 import { linksIn } from './link-lines.js';
 import { placeBelow } from './popup.js';
 import { isCaret, isRange, placesOf } from './ranges.js';
@@ -37,8 +38,9 @@ export function linkDialog(page) {
     text.input.value = '';
     address.input.value = link?.attributes.get('href') ?? '';
     markSelected(page);
-    placeBelow(element, placeOfSelected(page));
+    element.style.setProperty('--top', '0px'); // so that it has its whole height
     element.showPopover();
+    placeBelow(element, placeOfSelected(page));
     const { input } = text.label.hidden ? address : text;
     input.focus();
     input.select();
@@ -57,7 +59,7 @@ export function linkDialog(page) {
     event.preventDefault();
     const url = addressMeant(address.input.value);
     if (/\s/.test(url ?? '')) return page.notify('An address has no spaces in it.');
-    if (url === null) return page.notify('Links to such addresses aren\'t made here, since they can run programs.');
+    if (url === null) return page.notify('This address isn’t taken: links to such addresses can run programs.');
     if (url === '') return close({ dispatch: 'unlink' });
     if (text.label.hidden) return close({ dispatch: 'link', payload: url });
     close(linkWith(text.input.value || address.input.value.trim(), url, page.selection?.format ?? 0));
@@ -80,21 +82,19 @@ export function linkDialog(page) {
   return { element, open };
 }
 
-/** The element with what is selected may lose the browser's mark of it, so it gets another. */
+/** What is selected loses the browser's mark as the dialog gets the focus, so it gets another. */
 function markSelected(page) {
   const browser = getSelection();
   if (!globalThis.CSS?.highlights || browser.rangeCount === 0 || !page.selected) return;
   CSS.highlights.set('selected', new Highlight(browser.getRangeAt(0).cloneRange()));
 }
 
-/** The place of what is selected; a caret in an empty block has none of its own. */
+/** The place of what is selected in the window. */
 function placeOfSelected(page) {
   const browser = getSelection();
   if (browser.rangeCount === 0 || !page.selected) return page.view.element.getBoundingClientRect();
   const place = browser.getRangeAt(0).getBoundingClientRect();
-  if (place.bottom > 0) return place;
-  const { focusNode } = browser;
-  return (focusNode.closest ? focusNode : focusNode.parentElement).getBoundingClientRect();
+  return place.height > 0 ? place : placeOfCaret(browser);
 }
 
 /** The line that puts in a link with its text. */

@@ -51,10 +51,15 @@ export function tableSize(page) {
   panel.addEventListener('keydown', event => {
     event.stopPropagation(); // the bar around it has arrows of its own
     const [rows, columns] = sizeAt(cells.indexOf(document.activeElement));
-    const [down, right] = { ArrowDown: [1, 0], ArrowUp: [-1, 0], ArrowRight: [0, 1], ArrowLeft: [0, -1] }[event.key] ?? [];
-    if (down === undefined) return;
+    const to = {
+      ArrowDown: [rows + 1, columns],
+      ArrowUp: [rows - 1, columns],
+      ArrowRight: [rows, columns + 1],
+      ArrowLeft: [rows, columns - 1],
+    }[event.key];
+    if (to === undefined) return;
     event.preventDefault();
-    cells.find((_, index) => String(sizeAt(index)) === String([rows + down, columns + right]))?.focus();
+    cells.find((_, index) => String(sizeAt(index)) === String(to))?.focus();
   });
   return [button, panel];
 }
@@ -63,8 +68,9 @@ export function tableSize(page) {
 function emptyAway(page) {
   const { hosts } = page.view, selection = page.selected ?? placesOf(page.selection);
   const block = isCaret(selection) ? blockAt(hosts, selection.anchor) : null;
-  const isEmpty = block?.tag === 'p' && block.children.length === 0;
-  return isEmpty && indexOf(block) > 0 && isBlock(block.parent.children[indexOf(block) - 1]) ? [{ remove: block.key }] : [];
+  if (block?.tag !== 'p' || block.children.length > 0) return [];
+  const before = block.parent.children[indexOf(block) - 1];
+  return before && isBlock(before) ? [{ remove: block.key }] : [];
 }
 
 /** The rows and columns of the table whose last cell is a cell of the grid. */

@@ -69,7 +69,8 @@ export function toolbar(page, element) {
   page.view.element.addEventListener('keydown', event => {
     if (event.defaultPrevented || event.isComposing) return; // the page itself knows some of the keys
     if (isPressed(event, 'Alt+F10')) bar.querySelector('.tool[tabindex="0"]').focus(); // Tab itself is typed
-    const name = isPressed(event, 'Mod+K') ? 'link' : namesWithKeys.find(known => isPressed(event, controls[known].keys));
+    const known = namesWithKeys.find(each => isPressed(event, controls[each].keys));
+    const name = isPressed(event, 'Mod+K') ? 'link' : known;
     if (!name) return;
     event.preventDefault();
     choose(name);

@@ -31,8 +31,8 @@ export function group(children) {
   element.className = 'group';
   element.role = 'group';
   element.append(...children);
-  const levels = children.filter(child => child.classList.contains('tool')).map(({ dataset }) => Number(dataset.level ?? 0));
-  const level = Math.min(...levels);
+  const buttons = children.filter(child => child.classList.contains('tool'));
+  const level = Math.min(...buttons.map(({ dataset }) => Number(dataset.level ?? 0)));
   if (level > 0) element.dataset.level = level; // a group without a button isn't shown
   return element;
 }
