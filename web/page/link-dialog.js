@@ -37,6 +37,7 @@ export function linkDialog(page) {
     follow.hidden = remove.hidden = !link;
     text.input.value = '';
     address.input.value = link?.attributes.get('href') ?? '';
+    address.input.setCustomValidity('');
     markSelected(page);
     element.style.setProperty('--top', '0px'); // so that it has its whole height
     element.showPopover();
@@ -44,6 +45,12 @@ export function linkDialog(page) {
     const { input } = text.label.hidden ? address : text;
     input.focus();
     input.select();
+  }
+
+  /** Says beside the address what is wrong with it. */
+  function complain(words) {
+    address.input.setCustomValidity(words);
+    address.input.reportValidity();
   }
 
   /** Puts the caret back where it was: the browser moves it into what has the focus. */
@@ -58,12 +65,13 @@ export function linkDialog(page) {
   element.addEventListener('submit', event => {
     event.preventDefault();
     const url = addressMeant(address.input.value);
-    if (/\s/.test(url ?? '')) return page.notify('An address has no spaces in it.');
-    if (url === null) return page.notify('This address isn’t taken: links to such addresses can run programs.');
+    if (url === null) return complain('Links to such addresses can run programs.');
+    if (/\s/.test(url)) return complain('An address has no spaces in it.');
     if (url === '') return close({ dispatch: 'unlink' });
     if (text.label.hidden) return close({ dispatch: 'link', payload: url });
     close(linkWith(text.input.value || address.input.value.trim(), url, page.selection?.format ?? 0));
   });
+  address.input.addEventListener('input', () => address.input.setCustomValidity(''));
   remove.addEventListener('click', () => close({ dispatch: 'unlink' }));
   follow.addEventListener('click', () => {
     const url = addressMeant(address.input.value);
