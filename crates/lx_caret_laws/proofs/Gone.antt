@@ -98,7 +98,7 @@ not_apart f a = elim (cases_Bool (is_attached f a)) [
   | inr out ↦ rw out refl
 ]
 
-merged_itself : (o : Option ℕ) (w : Working) → merge_step o o w ≡ Ok w
+pub merged_itself : (o : Option ℕ) (w : Working) → merge_step o o w ≡ Ok w
 unfolding merge_step
 merged_itself None w = refl
 merged_itself (Some a) w =

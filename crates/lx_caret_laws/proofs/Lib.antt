@@ -1,6 +1,8 @@
+pub mod Across
 pub mod AtCaret
 pub mod BrokenParts
 pub mod BrokenUp
+pub mod Covers
 pub mod EditedIn
 pub mod Formatted
 pub mod FormattedAside
@@ -9,10 +11,14 @@ pub mod InBlocks
 pub mod InPlace
 pub mod Opened
 pub mod Placed
+pub mod ReadAcross
+pub mod ReadBeside
 pub mod ReadLevels
 pub mod Spliced
 pub mod SplitSaid
+pub mod TypedAcross
 pub mod TypedAll
 pub mod TypedIn
 pub mod TypedNew
 pub mod TypedOver
+pub mod WentOut

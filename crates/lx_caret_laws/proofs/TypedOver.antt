@@ -58,7 +58,7 @@ splice_allowed k from to new w v e =
     ap (λ (u : Working). u.written) (sym told.1) ∙ marked_written (differ (fields_of w.forest k) x) w.forest k (length new) w in
     omega (arith, is, written-allowed (length new) w none.1)
 
-normal_mode : (o : Option TextFields) (t : TextFields) → if_normal o ≡ Some t → is_normal t.mode ≡ true
+pub normal_mode : (o : Option TextFields) (t : TextFields) → if_normal o ≡ Some t → is_normal t.mode ≡ true
 normal_mode None t e = absurd (cc)
 normal_mode (Some u) t e = by_test (is_normal u.mode) refl e where
   by_test : (b : Bool) → is_normal u.mode ≡ b → cond b (Some u) None ≡ Some t → is_normal t.mode ≡ true
@@ -78,7 +78,7 @@ same_self None = refl
 same_self (Some a) = grind (arith, eqb_tells a a)
 
 -- at a caret in the tree nothing is removed
-removes_nothing : (p : Point) (format : ℕ) (u : Working) → u.selection ≡ Range p p format → lies u.forest p ≡ true → remove_text_step u ≡ Ok u
+pub removes_nothing : (p : Point) (format : ℕ) (u : Working) → u.selection ≡ Range p p format → lies u.forest p ≡ true → remove_text_step u ≡ Ok u
 unfolding remove_text_step range_of
 removes_nothing p format u caret place =
     let r : Ranged = ranged p p format in

@@ -7,18 +7,22 @@
 //! * What one removes or deletes in a text is exactly what is selected, or the cluster or word beside the caret, and
 //!   nothing else (`deleting_is_exact`).
 //! * Formatting changes no character, and no node but the covered texts and their parents (`formatting_keeps_text`).
+//! * What is selected from one text to another of the same parent goes when it is removed, or gives way to what one
+//!   types (`ranges_give_way`).
 //! * A paragraph that is inserted parts what is read in its block at the caret (`breaking_parts_text`).
 //! * Where one types, deletes or inserts a paragraph, all that the caret isn't in stays as it is.
 //!
-//! What is left where a range over several texts is removed, or where lines are joined, isn't said.
+//! What is left where a range from one parent to another is removed, or where lines are joined, isn't said.
 #![tactic(auto)]
 
 mod breaking;
 mod deleting;
 mod formatting;
+mod ranges;
 mod typing;
 
 pub use breaking::breaking_parts_text;
 pub use deleting::deleting_is_exact;
 pub use formatting::formatting_keeps_text;
+pub use ranges::ranges_give_way;
 pub use typing::typing_is_read;

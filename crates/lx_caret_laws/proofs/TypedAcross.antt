@@ -1,0 +1,140 @@
+-- Typing over what is selected from one text to another: it is removed, and then typed at the caret.
+use Rattle.lx_blocks.specs.Blocks.{is_at, passes}
+use Rattle.lx_blocks.specs.Ranges.{at_anchor, if_normal, lies, normal_at}
+use Rattle.lx_caret.proofs.Fit.{after_tells}
+use Rattle.lx_caret.specs.Inserting.{insert_text_step, typed}
+use Rattle.lx_edit.specs.Texts.{has_no_text}
+use Rattle.lx_caret.specs.Removing.{remove_text_step}
+use Rattle.lx_caret_laws.proofs.Across.{Across, across, gone_across}
+use Rattle.lx_caret_laws.proofs.Covers.{first_up}
+use Rattle.lx_caret_laws.proofs.ReadAcross.{place_over}
+use Rattle.lx_caret_laws.proofs.ReadBeside.{only_below, place_still}
+use Rattle.lx_caret_laws.proofs.TypedAll.{told-typing}
+use Rattle.lx_caret_laws.proofs.TypedOver.{normal_mode, removes_nothing}
+use Rattle.lx_caret_laws.specs.Carets.{IsSound}
+use Rattle.lx_caret_laws.specs.Ranges.{IsSelectedAcross, RangesGiveWay}
+use Rattle.lx_caret_laws.specs.Reading.{ReadsBetween, place_in, read_in}
+use Rattle.lx_caret_laws.specs.Typing.{IsCaretAt}
+use Rattle.lx_draft.proofs.Touched.{is_some-kind_of}
+use Rattle.lx_draft.specs.Faults.{after, text_in}
+use Rattle.lx_draft.specs.Working.{Working}
+use Rattle.lx_edit.specs.Edits.{text_point}
+use Rattle.lx_forest.proofs.Within.{is_within-up}
+use Rattle.lx_forest.specs.Forest.{Forest, Label}
+use Rattle.lx_forest.specs.Lookups.{has, is_within, kind_of, label_of}
+use Rattle.lx_node.specs.Kinds.{is_element}
+use Rattle.lx_node.specs.Limits.{most_written}
+use Rattle.lx_node.specs.declared.cause.Cause.{Cause}
+use Rattle.lx_node.specs.declared.cause.Point.{Point}
+use Rattle.lx_node.specs.declared.fields.TextFields.{TextFields}
+use Rattle.lx_node.specs.declared.kind.Kind.{Kind}
+use Rattle.lx_caret.specs.Lying.{EachPoint}
+use Rattle.lx_text.proofs.Places.{offset_is}
+use Rattle.lx_text.proofs.Told.{front_at, rest_at}
+use Rattle.lx_text.specs.Texts.{front_of, rest_of, text_length}
+use Rattle.std.proofs.Common.{Bool, List, None, Ok, Option, Result, Some, [], ap, append-nil, ap₂, arith, cond, false, inl, inr, option_map, refl, subst, sym, true, ℕ, ◌++◌, ◌∙◌, ◌≡◌, ◌≢◌, ◌≤◌}
+use Rattle.std.proofs.lemmas.Bool.Decides.{eqb_tells}
+use Rattle.std.specs.Prelude.{is_some}
+
+-- what is needed of a draft in which something was removed, to add something at its first point
+record Allows (p q : Point) (f g : Forest) : Type 0 where
+  element : (b : ℕ) → is_at is_element f b ≡ true → is_at is_element g b ≡ true
+  within : (b : ℕ) → is_within g b p.key ≡ is_within f b p.key
+  there : (b : ℕ) → has b f ≡ true → has b g ≡ true
+  place : (b : ℕ) → is_at is_element f b ≡ true → is_within f b p.key ≡ true → is_within f b q.key ≡ true → place_in g b p ≡ place_in f b p
+
+-- something removed, and something added in its place
+then_added : (f g h : Forest) (p q : Point) (new : List ℕ) → ReadsBetween p q [] f g → ReadsBetween p p new g h → Allows p q f g
+    → ReadsBetween p q new f h
+then_added f g h p q new one two a = record {
+  places = λ b element first second. one.places b element first second;
+  around = λ b element first second.
+      let n : ℕ = place_in f b p in
+      let front : List ℕ = front_of n (read_in f b) in
+      let rest : List ℕ = rest_of (place_in f b q) (read_in f b) in
+      let left : read_in g b ≡ front ++ rest = one.around b element first second ∙ ap (λ t. t ++ rest) (append-nil front) in
+      let in_g : is_within g b p.key ≡ true = a.within b ∙ first in
+      let long : text_length front ≡ n = offset_is n (read_in f b) (one.places b element first second).0 in
+      two.around b (a.element b element) in_g in_g
+      ∙ ap (λ o. front_of o (read_in g b) ++ new ++ rest_of o (read_in g b)) (a.place b element first second)
+      ∙ ap₂ (λ x y. x ++ new ++ y) (front_at n front rest (read_in g b) left long) (rest_at n front rest (read_in g b) left long);
+  elsewhere = λ b element first second.
+      let out : is_within g b p.key ≡ false = a.within b ∙ first in
+      two.elsewhere b (a.element b element) out out ∙ one.elsewhere b element first second;
+  aside = record {
+    each = λ x so first second.
+        let out : is_within g x p.key ≡ false = a.within x ∙ first in
+        let early = one.aside.each x so first second in
+        let late = two.aside.each x (a.there x so) out out in
+        (late.0 ∙ early.0, late.1 ∙ early.1);
+  };
+}
+
+kind_same : (f g : Forest) (q : ℕ) → label_of g q ≡ label_of f q → kind_of g q ≡ kind_of f q
+kind_same f g q same = ap (option_map (λ (l : Label). l.kind)) same
+
+-- a draft from which what is between two texts went allows that
+allows : (p s e i j format : ℕ) (one other : TextFields) (before mid rest : List ℕ) (w v : Working)
+    → Across p s e i j format one other before mid rest w v → Allows (text_point s i) (text_point e j) w.forest v.forest
+allows p s e i j format one other before mid rest w v a =
+    let f : Forest = w.forest in
+    let g : Forest = v.forest in
+    let below = only_below f g p s e i j one other before mid rest a.beside a.left a.first a.last a.in_first a.in_last in
+    let still = place_still f g p s e i j one other before mid rest a.beside a.left a.first a.last a.in_first a.in_last in
+    let up_s = first_up f p s e before mid rest a.beside in
+    record {
+      element = λ b element.
+          let not_s : b ≢ s = λ same. absurd (grind (arith, same, element, a.leaf)) in
+          let not_e : b ≢ e = λ same. absurd (grind (arith, same, element, a.leaf_last)) in
+          ap (passes is_element) (kind_same f g b (a.draft.labels b not_s not_e)) ∙ element;
+      within = a.draft.within;
+      there = λ b so. elim (eqb_tells b s) [
+        | inl own ↦ ap (λ x. has x g) own.1 ∙ sym (is_some-kind_of g s) ∙ ap (λ l. is_some (option_map (λ (l : Label). l.kind) l)) a.draft.first
+        | inr not_s ↦ elim (eqb_tells b e) [
+          | inl own ↦ ap (λ x. has x g) own.1 ∙ sym (is_some-kind_of g e) ∙ ap (λ l. is_some (option_map (λ (l : Label). l.kind) l)) a.draft.last
+          | inr not_e ↦
+              sym (is_some-kind_of g b) ∙ ap is_some (kind_same f g b (a.draft.labels b not_s.1 not_e.1)) ∙ is_some-kind_of f b ∙ so
+        ]
+      ];
+      place = λ b element first second.
+          let other : s ≢ b = λ same. absurd (grind (arith, same, element, a.leaf)) in
+          place_over f g (text_point s i) (text_point e j) p below a.draft.within still b
+          (sym (is_within-up f b s p a.beside.order up_s other) ∙ first);
+    }
+
+pub typed_across : (new : List ℕ) (p s e i j format : ℕ) (one other : TextFields) (w v : Working)
+    → IsSelectedAcross p s e i j format one other w → new ≢ [] → insert_text_step new w ≡ Ok v
+    → ReadsBetween (text_point s i) (text_point e j) new w.forest v.forest
+unfolding insert_text_step
+typed_across new p s e i j format one other w v is some done =
+    let next : Working → Result Working Cause = λ u. cond (has_no_text new) (Ok u) (at_anchor (typed new) u) in
+    let first = after_tells (remove_text_step w) next v done in
+    let u : Working = first.0 in
+    let a = across p s e i j format one other w u is first.1.0 in
+    let gone = gone_across p s e i j format one other w u is first.1.0 in
+    let start : Point = text_point s i in
+    let place : lies u.forest start ≡ true = (subst (EachPoint (λ p. lies u.forest p ≡ true)) a.caret a.fit.lying).0 in
+    let again : after (remove_text_step u) next ≡ Ok v =
+    ap (λ x. after x next) (removes_nothing start format u a.caret place) ∙ first.1.1 in
+    let left : TextFields = record one { text = front_of i one.text } in
+    let normal : normal_at u.forest s ≡ Some left =
+    ap (λ l. if_normal (text_in l)) a.draft.first
+    ∙ ap (λ b. cond b (Some left) None) (normal_mode (text_in (label_of w.forest s)) one is.first_normal) in
+    let caret : IsCaretAt start format u = record {
+      sound = record {
+        ready = a.fit.ready;
+        held = a.fit.held;
+        short = a.fit.short;
+        written = subst (λ n. n ≤ most_written) (sym a.draft.written) is.sound.written;
+      };
+      caret = a.caret;
+      open_there = λ inside. ap is_some normal;
+    } in
+    then_added w.forest u.forest v.forest start (text_point e j) new gone.around (told-typing.anywhere new start format u v caret some again)
+    (allows p s e i j format one other is.before is.between is.behind w u a)
+
+pub told-ranges : RangesGiveWay
+told-ranges = record {
+  removed = λ p s e i j format one other w v is done. gone_across p s e i j format one other w v is done;
+  typed = λ new p s e i j format one other w v is some done. typed_across new p s e i j format one other w v is some done;
+}

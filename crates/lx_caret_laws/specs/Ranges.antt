@@ -1,0 +1,51 @@
+-- What it means to remove what is selected from one text to another, or to type over it.
+use Rattle.std.specs.Prelude.{ℕ, ◌≡◌, ◌≢◌, ◌++◌, ◌⊎◌, List, [], ◌∷◌, Some, Ok}
+use Rattle.lx_node.specs.declared.fields.TextFields.{TextFields}
+use Rattle.lx_node.specs.declared.kind.Kind.TheVariants.{Text}
+use Rattle.lx_select.specs.declared.selection.Selection.TheVariants.{Range}
+use Rattle.lx_text.specs.Texts.{front_of, rest_of}
+use Rattle.lx_forest.specs.Forest.{Forest}
+use Rattle.lx_forest.specs.Lookups.{label_of, children_of}
+use Rattle.lx_draft.specs.Working.{Working}
+use Rattle.lx_draft.specs.Steps.{text_replaced}
+use Rattle.lx_edit.specs.Edits.{text_point}
+use Rattle.lx_blocks.specs.Ranges.{normal_at}
+use Rattle.lx_caret.specs.Removing.{remove_text_step}
+use Rattle.lx_caret.specs.Inserting.{insert_text_step}
+use Rattle.lx_caret_laws.specs.Carets.{IsSound, HasCaret}
+use Rattle.lx_caret_laws.specs.Reading.{ReadsBetween}
+
+-- a selection from an offset of one normal text to an offset of another, whichever is its anchor: both texts are children of one node,
+-- whose other children come before them, between them and behind them
+pub record IsSelectedAcross (parent first last from to format : ℕ) (one other : TextFields) (w : Working) : Type 0 where
+  pub sound : IsSound w
+  pub before : List ℕ
+  pub between : List ℕ
+  pub behind : List ℕ
+  pub children : children_of w.forest parent ≡ before ++ (first ∷ (between ++ (last ∷ behind)))
+  pub first_normal : normal_at w.forest first ≡ Some one
+  pub last_normal : normal_at w.forest last ≡ Some other
+  pub selects : (w.selection ≡ Range (text_point first from) (text_point last to) format) ⊎
+      (w.selection ≡ Range (text_point last to) (text_point first from) format)
+
+-- the text k reads this, and has its other fields
+abbrev pub ReadsNow : Forest → ℕ → TextFields → List ℕ → Type 0
+ReadsNow f k text now = label_of f k ≡ Some (record { key = k; kind = Text; fields = text_replaced text now })
+
+-- What was selected is gone: the first text keeps what it had before the selection, the last one what it had after it, and the nodes
+-- between them are the parent's children no more. In each element around, what is read is without it, and the caret stands there.
+pub record IsGoneAcross (parent first last from to format : ℕ) (one other : TextFields) (before behind : List ℕ) (w v : Working) : Type 0 where
+  pub first_reads : ReadsNow v.forest first one (front_of from one.text)
+  pub last_reads : ReadsNow v.forest last other (rest_of to other.text)
+  pub children : children_of v.forest parent ≡ before ++ (first ∷ (last ∷ behind))
+  pub around : ReadsBetween (text_point first from) (text_point last to) [] w.forest v.forest
+  pub caret : HasCaret first from format v
+
+-- what is selected from one text to another goes when it is removed, and gives way to what is typed
+pub record RangesGiveWay : Type 0 where
+  pub removed : (parent first last from to format : ℕ) (one other : TextFields) (w v : Working)
+      → (is : IsSelectedAcross parent first last from to format one other w) → remove_text_step w ≡ Ok v
+      → IsGoneAcross parent first last from to format one other is.before is.behind w v
+  pub typed : (typed : List ℕ) (parent first last from to format : ℕ) (one other : TextFields) (w v : Working)
+      → IsSelectedAcross parent first last from to format one other w → typed ≢ [] → insert_text_step typed w ≡ Ok v
+      → ReadsBetween (text_point first from) (text_point last to) typed w.forest v.forest
