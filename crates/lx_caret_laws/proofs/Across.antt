@@ -6,10 +6,11 @@ use Rattle.lx_blocks.specs.declared.ranges.Ranged.{Ranged}
 use Rattle.lx_caret.proofs.Cleared.{remove_text_fits}
 use Rattle.lx_caret.proofs.Fit.{Fit, after_tells}
 use Rattle.lx_caret.proofs.Lies.{both, text_at}
+use Rattle.lx_caret.specs.Deleting.{Reach, delete_step}
 use Rattle.lx_caret.specs.Removing.{cut_step, end_cut, merge_step, remove_between, remove_text_step, removed_below, removed_in, start_cut}
 use Rattle.lx_caret_laws.proofs.AtCaret.{Goes, goes, place_lies, ranged}
 use Rattle.lx_caret_laws.proofs.Covers.{AreBeside, among_at, first_up, last_up, moved_on, no_repeats_back, out_of_front, outermost_between}
-use Rattle.lx_caret_laws.proofs.Gone.{merged_itself}
+use Rattle.lx_caret_laws.proofs.Gone.{deleted_removes, merged_itself}
 use Rattle.lx_caret_laws.proofs.ReadBeside.{LeftBeside, between}
 use Rattle.lx_caret_laws.proofs.Spliced.{text_few, text_of_normal}
 use Rattle.lx_caret_laws.proofs.WentOut.{CutSo, WentOut, cut_so, went_out}
@@ -239,6 +240,13 @@ no_element : (f : Forest) (k : ℕ) → kind_of f k ≡ Some kinds.Text → is_a
 unfolding is_element
 no_element f k kind = rw kind refl
 
+-- the two texts aren't one
+pub texts_apart : (p s e i j format : ℕ) (one other : TextFields) (w : Working) → IsSelectedAcross p s e i j format one other w → s ≢ e
+texts_apart p s e i j format one other w is =
+    let once = no_repeats_back is.before (s ∷ (is.between ++ (e ∷ is.behind)))
+    (subst NoRepeats is.children (NoRepeats-children_of w.forest p is.sound.ready.in_order)) in
+    λ same. absurd (grind (arith, same, once.0, among_at is.between e is.behind))
+
 -- the points of a selection from one text to another, whichever is its anchor
 across_points : (a c : Point) (p s e i j format : ℕ) (one other : TextFields) (w v : Working)
     → (is : IsSelectedAcross p s e i j format one other w) → w.selection ≡ Range a c format
@@ -261,8 +269,7 @@ across_points a c p s e i j format one other w v is selects points place_s place
       first = childless_text f s h is.sound.held text_s.kind_is;
       last = childless_text f e h is.sound.held text_e.kind_is;
     } in
-    let once = no_repeats_back is.before (s ∷ (is.between ++ (e ∷ is.behind))) (subst NoRepeats is.children (NoRepeats-children_of f p h)) in
-    let apart : s ≢ e = λ same. absurd (grind (arith, same, once.0, among_at is.between e is.behind)) in
+    let apart : s ≢ e = texts_apart p s e i j format one other w is in
     let removed : remove_between (text_point s i) (text_point e j) w ≡ Ok v =
     either_way a c s e i j format w v (order f p s e i j is.before is.between is.behind b apart) apart points goes.removed in
     let parts = in_parts p s e i j one other is.before is.between is.behind w v b is.first_normal is.last_normal text_s.kind_is text_e.kind_is apart
@@ -314,3 +321,16 @@ gone_across p s e i j format one other w v is done =
       around = between w.forest v.forest p s e i j one other is.before is.between is.behind a.beside a.left a.first a.last a.in_first a.in_last a.leaf;
       caret = a.caret;
     }
+
+-- what is selected so is deleted as it is removed
+pub deleted_across : (back : Bool) (reach : Reach) (p s e i j format : ℕ) (one other : TextFields) (w v : Working)
+    → (is : IsSelectedAcross p s e i j format one other w) → delete_step back reach w ≡ Ok v
+    → IsGoneAcross p s e i j format one other is.before is.behind w v
+deleted_across back reach p s e i j format one other w v is done =
+    let apart : s ≢ e = texts_apart p s e i j format one other w is in
+    gone_across p s e i j format one other w v is (elim is.selects [
+      | inl selects ↦
+          deleted_removes back reach (text_point s i) (text_point e j) format w v selects (grind (arith, apart, eqb_tells s e)) done
+      | inr selects ↦
+          deleted_removes back reach (text_point e j) (text_point s i) format w v selects (grind (arith, apart, eqb_tells e s)) done
+    ])

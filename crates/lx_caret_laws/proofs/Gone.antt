@@ -207,6 +207,16 @@ deleted_goes back reach a b format w v selects apart e =
     ap (λ r. cond (is_collapsed r) (deleted_in back reach r.anchor (block_of w.forest r.anchor.key) w) (removed_in r w)) (sym same) ∙ first.1.1 in
     sym (ap (λ t. cond t (deleted_in back reach a (block_of w.forest a.key) w) (removed_in r w)) apart) ∙ here
 
+-- so it is what removing leaves
+pub deleted_removes : (back : Bool) (reach : Reach) (a b : Point) (format : ℕ) (w v : Working) → w.selection ≡ Range a b format
+    → is_collapsed (ranged a b format) ≡ false → delete_step back reach w ≡ Ok v → remove_text_step w ≡ Ok v
+unfolding delete_step remove_text_step
+deleted_removes back reach a b format w v selects apart e =
+    let first = after_tells (range_of w) (λ r. cond (is_collapsed r) (deleted_in back reach r.anchor (block_of w.forest r.anchor.key) w)
+    (removed_in r w)) v e in
+    ap (λ x. after x (λ r. removed_in r w)) (taken a b format w first.0 selects first.1.0).is
+    ∙ deleted_goes back reach a b format w v selects apart e
+
 deleted_gone : (back : Bool) (reach : Reach) (k from to format : ℕ) (t : TextFields) (w v : Working) → IsSelectedIn k from to format t w
     → delete_step back reach w ≡ Ok v → IsGone k from to format t.text w v
 deleted_gone back reach k from to format t w v is e = elim is.selects [

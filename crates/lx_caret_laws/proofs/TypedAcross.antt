@@ -1,11 +1,12 @@
--- Typing over what is selected from one text to another: it is removed, and then typed at the caret.
+-- Typing over what is selected from one text to another: it is removed, and what is typed comes at the caret.
 use Rattle.lx_blocks.specs.Blocks.{is_at, passes}
 use Rattle.lx_blocks.specs.Ranges.{at_anchor, if_normal, lies, normal_at}
 use Rattle.lx_caret.proofs.Fit.{after_tells}
-use Rattle.lx_caret.specs.Inserting.{insert_text_step, typed}
+use Rattle.lx_caret.specs.Deleting.{cluster_reach, delete_character_step, delete_word_step, word_reach}
+use Rattle.lx_caret.specs.Inserting.{broken, insert_line_break_step, insert_tab_step, insert_text_step, tabbed, typed}
 use Rattle.lx_edit.specs.Texts.{has_no_text}
 use Rattle.lx_caret.specs.Removing.{remove_text_step}
-use Rattle.lx_caret_laws.proofs.Across.{Across, across, gone_across}
+use Rattle.lx_caret_laws.proofs.Across.{Across, across, deleted_across, gone_across}
 use Rattle.lx_caret_laws.proofs.Covers.{first_up}
 use Rattle.lx_caret_laws.proofs.ReadAcross.{place_over}
 use Rattle.lx_caret_laws.proofs.ReadBeside.{only_below, place_still}
@@ -32,7 +33,7 @@ use Rattle.lx_caret.specs.Lying.{EachPoint}
 use Rattle.lx_text.proofs.Places.{offset_is}
 use Rattle.lx_text.proofs.Told.{front_at, rest_at}
 use Rattle.lx_text.specs.Texts.{front_of, rest_of, text_length}
-use Rattle.std.proofs.Common.{Bool, List, None, Ok, Option, Result, Some, [], ap, append-nil, ap₂, arith, cond, false, inl, inr, option_map, refl, subst, sym, true, ℕ, ◌++◌, ◌∙◌, ◌≡◌, ◌≢◌, ◌≤◌}
+use Rattle.std.proofs.Common.{Bool, List, None, Ok, Option, Result, Some, [], ap, append-nil, ap₂, arith, cond, false, inl, inr, option_map, refl, subst, sym, true, ℕ, ◌++◌, ◌∙◌, ◌∷◌, ◌≡◌, ◌≢◌, ◌≤◌}
 use Rattle.std.proofs.lemmas.Bool.Decides.{eqb_tells}
 use Rattle.std.specs.Prelude.{is_some}
 
@@ -102,12 +103,13 @@ allows p s e i j format one other before mid rest w v a =
           (sym (is_within-up f b s p a.beside.order up_s other) ∙ first);
     }
 
-pub typed_across : (new : List ℕ) (p s e i j format : ℕ) (one other : TextFields) (w v : Working)
-    → IsSelectedAcross p s e i j format one other w → new ≢ [] → insert_text_step new w ≡ Ok v
+-- what is added at the caret, once what is selected was removed
+added_across : (new : List ℕ) (next : Working → Result Working Cause) (p s e i j format : ℕ) (one other : TextFields) (w v : Working)
+    → IsSelectedAcross p s e i j format one other w → after (remove_text_step w) next ≡ Ok v
+    → ((u : Working) → IsCaretAt (text_point s i) format u → after (remove_text_step u) next ≡ Ok v
+    → ReadsBetween (text_point s i) (text_point s i) new u.forest v.forest)
     → ReadsBetween (text_point s i) (text_point e j) new w.forest v.forest
-unfolding insert_text_step
-typed_across new p s e i j format one other w v is some done =
-    let next : Working → Result Working Cause = λ u. cond (has_no_text new) (Ok u) (at_anchor (typed new) u) in
+added_across new next p s e i j format one other w v is done added =
     let first = after_tells (remove_text_step w) next v done in
     let u : Working = first.0 in
     let a = across p s e i j format one other w u is first.1.0 in
@@ -130,11 +132,24 @@ typed_across new p s e i j format one other w v is some done =
       caret = a.caret;
       open_there = λ inside. ap is_some normal;
     } in
-    then_added w.forest u.forest v.forest start (text_point e j) new gone.around (told-typing.anywhere new start format u v caret some again)
+    then_added w.forest u.forest v.forest start (text_point e j) new gone.around (added u caret again)
     (allows p s e i j format one other is.before is.between is.behind w u a)
 
 pub told-ranges : RangesGiveWay
+unfolding delete_character_step delete_word_step insert_text_step insert_tab_step insert_line_break_step
 told-ranges = record {
   removed = λ p s e i j format one other w v is done. gone_across p s e i j format one other w v is done;
-  typed = λ new p s e i j format one other w v is some done. typed_across new p s e i j format one other w v is some done;
+  deleted = λ back p s e i j format one other w v is done. elim done [
+    | inl character ↦ deleted_across back (cluster_reach back) p s e i j format one other w v is character
+    | inr word ↦ deleted_across back (word_reach back) p s e i j format one other w v is word
+  ];
+  typed = λ new p s e i j format one other w v is some done.
+      added_across new (λ u. cond (has_no_text new) (Ok u) (at_anchor (typed new) u)) p s e i j format one other w v is done
+      (λ u caret again. told-typing.anywhere new (text_point s i) format u v caret some again);
+  tab = λ p s e i j format one other w v is done.
+      added_across (9 ∷ []) (at_anchor tabbed) p s e i j format one other w v is done
+      (λ u caret again. told-typing.tab (text_point s i) format u v caret again);
+  line_break = λ p s e i j format one other w v is done.
+      added_across [] (at_anchor broken) p s e i j format one other w v is done
+      (λ u caret again. told-typing.line_break (text_point s i) format u v caret again);
 }

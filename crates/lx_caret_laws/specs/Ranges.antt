@@ -1,5 +1,5 @@
 -- What it means to remove what is selected from one text to another, or to type over it.
-use Rattle.std.specs.Prelude.{ℕ, ◌≡◌, ◌≢◌, ◌++◌, ◌⊎◌, List, [], ◌∷◌, Some, Ok}
+use Rattle.std.specs.Prelude.{ℕ, ◌≡◌, ◌≢◌, ◌++◌, ◌⊎◌, Bool, List, [], ◌∷◌, Some, Ok}
 use Rattle.lx_node.specs.declared.fields.TextFields.{TextFields}
 use Rattle.lx_node.specs.declared.kind.Kind.TheVariants.{Text}
 use Rattle.lx_select.specs.declared.selection.Selection.TheVariants.{Range}
@@ -11,7 +11,8 @@ use Rattle.lx_draft.specs.Steps.{text_replaced}
 use Rattle.lx_edit.specs.Edits.{text_point}
 use Rattle.lx_blocks.specs.Ranges.{normal_at}
 use Rattle.lx_caret.specs.Removing.{remove_text_step}
-use Rattle.lx_caret.specs.Inserting.{insert_text_step}
+use Rattle.lx_caret.specs.Deleting.{delete_character_step, delete_word_step}
+use Rattle.lx_caret.specs.Inserting.{insert_text_step, insert_line_break_step, insert_tab_step}
 use Rattle.lx_caret_laws.specs.Carets.{IsSound, HasCaret}
 use Rattle.lx_caret_laws.specs.Reading.{ReadsBetween}
 
@@ -41,11 +42,22 @@ pub record IsGoneAcross (parent first last from to format : ℕ) (one other : Te
   pub around : ReadsBetween (text_point first from) (text_point last to) [] w.forest v.forest
   pub caret : HasCaret first from format v
 
--- what is selected from one text to another goes when it is removed, and gives way to what is typed
+-- what is selected from one text to another goes when it is removed or deleted, and gives way to what is typed or inserted
 pub record RangesGiveWay : Type 0 where
   pub removed : (parent first last from to format : ℕ) (one other : TextFields) (w v : Working)
       → (is : IsSelectedAcross parent first last from to format one other w) → remove_text_step w ≡ Ok v
       → IsGoneAcross parent first last from to format one other is.before is.behind w v
+  pub deleted : (back : Bool) (parent first last from to format : ℕ) (one other : TextFields) (w v : Working)
+      → (is : IsSelectedAcross parent first last from to format one other w)
+      → (delete_character_step back w ≡ Ok v) ⊎ (delete_word_step back w ≡ Ok v)
+      → IsGoneAcross parent first last from to format one other is.before is.behind w v
   pub typed : (typed : List ℕ) (parent first last from to format : ℕ) (one other : TextFields) (w v : Working)
       → IsSelectedAcross parent first last from to format one other w → typed ≢ [] → insert_text_step typed w ≡ Ok v
       → ReadsBetween (text_point first from) (text_point last to) typed w.forest v.forest
+  -- a tab is read there as its character, and where a line break comes no character does
+  pub tab : (parent first last from to format : ℕ) (one other : TextFields) (w v : Working)
+      → IsSelectedAcross parent first last from to format one other w → insert_tab_step w ≡ Ok v
+      → ReadsBetween (text_point first from) (text_point last to) (9 ∷ []) w.forest v.forest
+  pub line_break : (parent first last from to format : ℕ) (one other : TextFields) (w v : Working)
+      → IsSelectedAcross parent first last from to format one other w → insert_line_break_step w ≡ Ok v
+      → ReadsBetween (text_point first from) (text_point last to) [] w.forest v.forest
