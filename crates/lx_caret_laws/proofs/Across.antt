@@ -60,10 +60,10 @@ block_up f k p h up kind =
 
 -- ---- what a text that is cut leaves of others
 
-label_stays : (f g : Forest) (k : ℕ) (now : List ℕ) → OnlyReads k now f g → (q : ℕ) → q ≢ k → label_of g q ≡ label_of f q
+pub label_stays : (f g : Forest) (k : ℕ) (now : List ℕ) → OnlyReads k now f g → (q : ℕ) → q ≢ k → label_of g q ≡ label_of f q
 label_stays f g k now only q other = ap (option_map (λ (y : Spot Label). y.label)) (only.others q other)
 
-children_stay : (f g : Forest) (k : ℕ) (now : List ℕ) → OnlyReads k now f g → (q : ℕ) → children_of g q ≡ children_of f q
+pub children_stay : (f g : Forest) (k : ℕ) (now : List ℕ) → OnlyReads k now f g → (q : ℕ) → children_of g q ≡ children_of f q
 children_stay f g k now only q = elim (eqb_tells q k) [
   | inl own ↦ ap (children_of g) own.1 ∙ only.children ∙ ap (children_of f) (sym own.1)
   | inr other ↦ ap children_at (only.others q other.1)

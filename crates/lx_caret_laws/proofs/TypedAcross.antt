@@ -6,18 +6,19 @@ use Rattle.lx_caret.specs.Deleting.{cluster_reach, delete_character_step, delete
 use Rattle.lx_caret.specs.Inserting.{broken, insert_line_break_step, insert_tab_step, insert_text_step, tabbed, typed}
 use Rattle.lx_edit.specs.Texts.{has_no_text}
 use Rattle.lx_caret.specs.Removing.{remove_text_step}
-use Rattle.lx_caret_laws.proofs.Across.{Across, across, deleted_across, gone_across}
+use Rattle.lx_caret_laws.proofs.Across.{Across, across, children_stay, deleted_across, gone_across, label_stays, texts_apart}
 use Rattle.lx_caret_laws.proofs.Covers.{first_up}
 use Rattle.lx_caret_laws.proofs.ReadAcross.{place_over}
 use Rattle.lx_caret_laws.proofs.ReadBeside.{only_below, place_still}
 use Rattle.lx_caret_laws.proofs.TypedAll.{told-typing}
 use Rattle.lx_caret_laws.proofs.TypedOver.{normal_mode, removes_nothing}
 use Rattle.lx_caret_laws.specs.Carets.{IsSound}
-use Rattle.lx_caret_laws.specs.Ranges.{IsSelectedAcross, RangesGiveWay}
+use Rattle.lx_caret_laws.specs.Ranges.{IsGoneAcross, IsSelectedAcross, IsTypedAcross, RangesGiveWay}
 use Rattle.lx_caret_laws.specs.Reading.{ReadsBetween, place_in, read_in}
-use Rattle.lx_caret_laws.specs.Typing.{IsCaretAt}
+use Rattle.lx_caret_laws.specs.Typing.{IsCaretAt, IsTyped}
 use Rattle.lx_draft.proofs.Touched.{is_some-kind_of}
 use Rattle.lx_draft.specs.Faults.{after, text_in}
+use Rattle.lx_draft.specs.Steps.{text_replaced}
 use Rattle.lx_draft.specs.Working.{Working}
 use Rattle.lx_edit.specs.Edits.{text_point}
 use Rattle.lx_forest.proofs.Within.{is_within-up}
@@ -28,10 +29,10 @@ use Rattle.lx_node.specs.Limits.{most_written}
 use Rattle.lx_node.specs.declared.cause.Cause.{Cause}
 use Rattle.lx_node.specs.declared.cause.Point.{Point}
 use Rattle.lx_node.specs.declared.fields.TextFields.{TextFields}
-use Rattle.lx_node.specs.declared.kind.Kind.{Kind}
+use Rattle.lx_node.specs.declared.kind.Kind.TheVariants as kinds
 use Rattle.lx_caret.specs.Lying.{EachPoint}
-use Rattle.lx_text.proofs.Places.{offset_is}
-use Rattle.lx_text.proofs.Told.{front_at, rest_at}
+use Rattle.lx_text.proofs.Places.{front-length, offset_is, rest-end}
+use Rattle.lx_text.proofs.Told.{front-end, front_at, rest_at}
 use Rattle.lx_text.specs.Texts.{front_of, rest_of, text_length}
 use Rattle.std.proofs.Common.{Bool, List, None, Ok, Option, Result, Some, [], ap, append-nil, ap₂, arith, cond, false, inl, inr, option_map, refl, subst, sym, true, ℕ, ◌++◌, ◌∙◌, ◌∷◌, ◌≡◌, ◌≢◌, ◌≤◌}
 use Rattle.std.proofs.lemmas.Bool.Decides.{eqb_tells}
@@ -103,37 +104,78 @@ allows p s e i j format one other before mid rest w v a =
           (sym (is_within-up f b s p a.beside.order up_s other) ∙ first);
     }
 
--- what is added at the caret, once what is selected was removed
-added_across : (new : List ℕ) (next : Working → Result Working Cause) (p s e i j format : ℕ) (one other : TextFields) (w v : Working)
-    → IsSelectedAcross p s e i j format one other w → after (remove_text_step w) next ≡ Ok v
-    → ((u : Working) → IsCaretAt (text_point s i) format u → after (remove_text_step u) next ≡ Ok v
-    → ReadsBetween (text_point s i) (text_point s i) new u.forest v.forest)
-    → ReadsBetween (text_point s i) (text_point e j) new w.forest v.forest
-added_across new next p s e i j format one other w v is done added =
+-- the draft between: what is selected was removed, and the same command goes on at the caret
+record Between (p s e i j format : ℕ) (one other : TextFields) (before mid rest : List ℕ) (next : Working → Result Working Cause) (w v : Working)
+    : Type 0 where
+  draft : Working
+  across : Across p s e i j format one other before mid rest w draft
+  gone : IsGoneAcross p s e i j format one other before rest w draft
+  normal : normal_at draft.forest s ≡ Some (record one { text = front_of i one.text })
+  sound : IsSound draft
+  again : after (remove_text_step draft) next ≡ Ok v
+
+between : (next : Working → Result Working Cause) (p s e i j format : ℕ) (one other : TextFields) (w v : Working)
+    → (is : IsSelectedAcross p s e i j format one other w) → after (remove_text_step w) next ≡ Ok v
+    → Between p s e i j format one other is.before is.between is.behind next w v
+between next p s e i j format one other w v is done =
     let first = after_tells (remove_text_step w) next v done in
     let u : Working = first.0 in
     let a = across p s e i j format one other w u is first.1.0 in
-    let gone = gone_across p s e i j format one other w u is first.1.0 in
     let start : Point = text_point s i in
     let place : lies u.forest start ≡ true = (subst (EachPoint (λ p. lies u.forest p ≡ true)) a.caret a.fit.lying).0 in
-    let again : after (remove_text_step u) next ≡ Ok v =
-    ap (λ x. after x next) (removes_nothing start format u a.caret place) ∙ first.1.1 in
     let left : TextFields = record one { text = front_of i one.text } in
-    let normal : normal_at u.forest s ≡ Some left =
-    ap (λ l. if_normal (text_in l)) a.draft.first
-    ∙ ap (λ b. cond b (Some left) None) (normal_mode (text_in (label_of w.forest s)) one is.first_normal) in
-    let caret : IsCaretAt start format u = record {
+    record {
+      draft = u;
+      across = a;
+      gone = gone_across p s e i j format one other w u is first.1.0;
+      normal = ap (λ l. if_normal (text_in l)) a.draft.first
+          ∙ ap (λ b. cond b (Some left) None) (normal_mode (text_in (label_of w.forest s)) one is.first_normal);
       sound = record {
         ready = a.fit.ready;
         held = a.fit.held;
         short = a.fit.short;
         written = subst (λ n. n ≤ most_written) (sym a.draft.written) is.sound.written;
       };
-      caret = a.caret;
-      open_there = λ inside. ap is_some normal;
-    } in
-    then_added w.forest u.forest v.forest start (text_point e j) new gone.around (added u caret again)
-    (allows p s e i j format one other is.before is.between is.behind w u a)
+      again = ap (λ x. after x next) (removes_nothing start format u a.caret place) ∙ first.1.1;
+    }
+
+-- what is added at the caret is read in the place of what was selected
+added_across : (new : List ℕ) (next : Working → Result Working Cause) (p s e i j format : ℕ) (one other : TextFields) (w v : Working)
+    → IsSelectedAcross p s e i j format one other w → after (remove_text_step w) next ≡ Ok v
+    → ((u : Working) → IsCaretAt (text_point s i) format u → after (remove_text_step u) next ≡ Ok v
+    → ReadsBetween (text_point s i) (text_point s i) new u.forest v.forest)
+    → ReadsBetween (text_point s i) (text_point e j) new w.forest v.forest
+added_across new next p s e i j format one other w v is done added =
+    let m = between next p s e i j format one other w v is done in
+    let caret : IsCaretAt (text_point s i) format m.draft =
+    record { sound = m.sound; caret = m.across.caret; open_there = λ inside. ap is_some m.normal } in
+    then_added w.forest m.draft.forest v.forest (text_point s i) (text_point e j) new m.gone.around (added m.draft caret m.again)
+    (allows p s e i j format one other is.before is.between is.behind w m.draft m.across)
+
+-- in the format of the first text it is typed into that
+typed_into : (new : List ℕ) (p s e i j : ℕ) (one other : TextFields) (w v : Working)
+    → (is : IsSelectedAcross p s e i j one.format one other w) → insert_text_step new w ≡ Ok v
+    → IsTypedAcross new p s e i j one other is.before is.behind w v
+unfolding insert_text_step
+typed_into new p s e i j one other w v is done =
+    let m = between (λ u. cond (has_no_text new) (Ok u) (at_anchor (typed new) u)) p s e i j one.format one other w v is done in
+    let u : Working = m.draft in
+    let a = m.across in
+    let front : List ℕ = front_of i one.text in
+    let left : TextFields = record one { text = front } in
+    let in_it : IsTyped new s i left u v = record { sound = m.sound; normal = m.normal; caret = a.caret; done = m.again } in
+    let only = told-typing.read new s i left u v in_it in
+    let few : text_length front ≤ i = front-length i one.text in
+    let reads : front_of i front ++ new ++ rest_of i front ≡ front ++ new =
+    ap₂ (λ x y. x ++ new ++ y) (front-end i front few) (rest-end i front few) ∙ append-nil (front ++ new) in
+    let apart : e ≢ s = λ same. texts_apart p s e i j one.format one other w is (sym same) in
+    record {
+      first_reads = only.text left (ap text_in a.draft.first)
+          ∙ ap (λ t. let l : Label = record { key = s; kind = kinds.Text; fields = text_replaced one t } in Some l) reads;
+      last_reads = label_stays u.forest v.forest s _ only e apart ∙ a.draft.last;
+      children = children_stay u.forest v.forest s _ only p ∙ a.draft.at;
+      caret = told-typing.caret new s i left u v in_it;
+    }
 
 pub told-ranges : RangesGiveWay
 unfolding delete_character_step delete_word_step insert_text_step insert_tab_step insert_line_break_step
@@ -146,6 +188,7 @@ told-ranges = record {
   typed = λ new p s e i j format one other w v is some done.
       added_across new (λ u. cond (has_no_text new) (Ok u) (at_anchor (typed new) u)) p s e i j format one other w v is done
       (λ u caret again. told-typing.anywhere new (text_point s i) format u v caret some again);
+  typed_into = λ new p s e i j one other w v is done. typed_into new p s e i j one other w v is done;
   tab = λ p s e i j format one other w v is done.
       added_across (9 ∷ []) (at_anchor tabbed) p s e i j format one other w v is done
       (λ u caret again. told-typing.tab (text_point s i) format u v caret again);

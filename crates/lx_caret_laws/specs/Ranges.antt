@@ -1,9 +1,9 @@
 -- What it means to remove what is selected from one text to another, or to type over it.
-use Rattle.std.specs.Prelude.{ℕ, ◌≡◌, ◌≢◌, ◌++◌, ◌⊎◌, Bool, List, [], ◌∷◌, Some, Ok}
+use Rattle.std.specs.Prelude.{ℕ, ◌≡◌, ◌≢◌, ◌+◌, ◌++◌, ◌⊎◌, Bool, List, [], ◌∷◌, Some, Ok}
 use Rattle.lx_node.specs.declared.fields.TextFields.{TextFields}
 use Rattle.lx_node.specs.declared.kind.Kind.TheVariants.{Text}
 use Rattle.lx_select.specs.declared.selection.Selection.TheVariants.{Range}
-use Rattle.lx_text.specs.Texts.{front_of, rest_of}
+use Rattle.lx_text.specs.Texts.{text_length, front_of, rest_of}
 use Rattle.lx_forest.specs.Forest.{Forest}
 use Rattle.lx_forest.specs.Lookups.{label_of, children_of}
 use Rattle.lx_draft.specs.Working.{Working}
@@ -42,6 +42,15 @@ pub record IsGoneAcross (parent first last from to format : ℕ) (one other : Te
   pub around : ReadsBetween (text_point first from) (text_point last to) [] w.forest v.forest
   pub caret : HasCaret first from format v
 
+-- What was selected gave way to what was typed in the first text's format: that text reads it after its front, and the caret stands
+-- after it. The last text and the parent's children are as after removing.
+pub record IsTypedAcross (typed : List ℕ) (parent first last from to : ℕ) (one other : TextFields) (before behind : List ℕ) (w v : Working)
+    : Type 0 where
+  pub first_reads : ReadsNow v.forest first one (front_of from one.text ++ typed)
+  pub last_reads : ReadsNow v.forest last other (rest_of to other.text)
+  pub children : children_of v.forest parent ≡ before ++ (first ∷ (last ∷ behind))
+  pub caret : HasCaret first (from + text_length typed) one.format v
+
 -- what is selected from one text to another goes when it is removed or deleted, and gives way to what is typed or inserted
 pub record RangesGiveWay : Type 0 where
   pub removed : (parent first last from to format : ℕ) (one other : TextFields) (w v : Working)
@@ -54,6 +63,10 @@ pub record RangesGiveWay : Type 0 where
   pub typed : (typed : List ℕ) (parent first last from to format : ℕ) (one other : TextFields) (w v : Working)
       → IsSelectedAcross parent first last from to format one other w → typed ≢ [] → insert_text_step typed w ≡ Ok v
       → ReadsBetween (text_point first from) (text_point last to) typed w.forest v.forest
+  -- typed in the format of the first text, it goes into that
+  pub typed_into : (typed : List ℕ) (parent first last from to : ℕ) (one other : TextFields) (w v : Working)
+      → (is : IsSelectedAcross parent first last from to one.format one other w) → insert_text_step typed w ≡ Ok v
+      → IsTypedAcross typed parent first last from to one other is.before is.behind w v
   -- a tab is read there as its character, and where a line break comes no character does
   pub tab : (parent first last from to format : ℕ) (one other : TextFields) (w v : Working)
       → IsSelectedAcross parent first last from to format one other w → insert_tab_step w ≡ Ok v
