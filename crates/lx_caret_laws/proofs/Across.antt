@@ -14,7 +14,7 @@ use Rattle.lx_caret_laws.proofs.Gone.{deleted_removes, merged_itself}
 use Rattle.lx_caret_laws.proofs.ReadBeside.{LeftBeside, between}
 use Rattle.lx_caret_laws.proofs.Spliced.{text_few, text_of_normal}
 use Rattle.lx_caret_laws.proofs.WentOut.{CutSo, WentOut, cut_so, went_out}
-use Rattle.lx_caret_laws.specs.Carets.{HasCaret, IsSound, OnlyReads}
+use Rattle.lx_caret_laws.specs.Carets.{HasCaret, OnlyReads}
 use Rattle.lx_caret_laws.specs.Ranges.{IsGoneAcross, IsSelectedAcross, ReadsNow}
 use Rattle.lx_draft.proofs.Gaps.{parent_here}
 use Rattle.lx_draft.specs.Faults.{after, text_in}
@@ -29,8 +29,8 @@ use Rattle.lx_forest.proofs.Lookups.{NoRepeats-children_of, has-child}
 use Rattle.lx_forest.proofs.Walks.{ancestors-step, is_attached-up, order_of-children}
 use Rattle.lx_forest.proofs.Within.{is_within-leaf, is_within-self}
 use Rattle.lx_forest.specs.Forest.{Forest, Label}
-use Rattle.lx_forest.specs.Lookups.{IsForest, ancestors, children_of, has, is_attached, is_within, kind_of, label_of, order_of, parent_of}
-use Rattle.lx_node.specs.Kinds.{is_element, is_text_block, may_hold}
+use Rattle.lx_forest.specs.Lookups.{IsForest, ancestors, children_of, is_attached, is_within, kind_of, label_of, parent_of}
+use Rattle.lx_node.specs.Kinds.{is_element, is_text_block}
 use Rattle.lx_node.specs.declared.cause.Cause.{Cause}
 use Rattle.lx_node.specs.declared.cause.Point.{Point}
 use Rattle.lx_node.specs.declared.cause.PointKind.TheVariants as point
@@ -41,11 +41,10 @@ use Rattle.lx_select.specs.declared.selection.Selection.TheVariants.{Range}
 use Rattle.lx_text.proofs.Places.{front-start, rest-end}
 use Rattle.lx_text.proofs.Told.{told-all}
 use Rattle.lx_text.specs.Texts.{front_of, is_offset, rest_of, text_length}
-use Rattle.lx_trees.proofs.Siblings.{is_among-append}
 use Rattle.lx_trees.specs.Siblings.{ComesBefore, NoRepeats, index_in, is_among}
 use Rattle.lx_trees.specs.Spots.{Spot, children_at}
-use Rattle.std.proofs.Common.{Bool, List, None, Ok, Option, Result, Some, [], ap, append-nil, append_assoc, ap₂, arith, cond, eqb, false, inl, inr, length, length-append, option_map, refl, subst, sym, true, ℕ, ◌++◌, ◌+◌, ◌∙◌, ◌∷◌, ◌≡◌, ◌≢◌, ◌≤◌, ◌⊎◌}
-use Rattle.std.proofs.lemmas.Bool.Decides.{eqb_tells, nat_tests}
+use Rattle.std.proofs.Common.{Bool, List, Ok, Result, Some, [], ap, append-nil, append_assoc, ap₂, arith, cond, eqb, false, inl, inr, length, length-append, option_map, refl, subst, sym, true, ℕ, ◌++◌, ◌+◌, ◌∙◌, ◌∷◌, ◌≡◌, ◌≢◌, ◌≤◌, ◌⊎◌}
+use Rattle.std.proofs.lemmas.Bool.Decides.{eqb_tells}
 use Rattle.std.specs.Prelude.{find}
 
 -- ---- one block
@@ -137,7 +136,8 @@ left_by p s e i j len one other before rest w v apart long here_s here_e parts =
     let turned : e ≢ s = λ same. apart (sym same) in
     let front_is : front_of i one.text ++ rest_of len one.text ≡ front_of i one.text =
     ap (λ t. front_of i one.text ++ t) (rest-end len one.text long) ∙ append-nil (front_of i one.text) in
-    let rest_is : front_of 0 other.text ++ rest_of j other.text ≡ rest_of j other.text = ap (λ t. t ++ rest_of j other.text) (front-start other.text) in
+    let rest_is : front_of 0 other.text ++ rest_of j other.text ≡ rest_of j other.text =
+    ap (λ t. t ++ rest_of j other.text) (front-start other.text) in
     let label_e : label_of r e ≡ label_of f e = parts.out.label e ∙ label_stays f c s _ parts.first.read e turned in
     let now_s : ReadsNow c s one (front_of i one.text) =
     parts.first.read.text one here_s
@@ -304,10 +304,12 @@ pub across : (p s e i j format : ℕ) (one other : TextFields) (w v : Working) �
 across p s e i j format one other w v is done = elim is.selects [
   | inl selects ↦
       let told = goes (text_point s i) (text_point e j) format w v selects done in
-      across_points (text_point s i) (text_point e j) p s e i j format one other w v is selects (inl (refl, refl)) told.is.anchor told.is.focus told done
+      across_points (text_point s i) (text_point e j) p s e i j format one other w v is selects (inl (refl, refl))
+      told.is.anchor told.is.focus told done
   | inr selects ↦
       let told = goes (text_point e j) (text_point s i) format w v selects done in
-      across_points (text_point e j) (text_point s i) p s e i j format one other w v is selects (inr (refl, refl)) told.is.focus told.is.anchor told done
+      across_points (text_point e j) (text_point s i) p s e i j format one other w v is selects (inr (refl, refl))
+      told.is.focus told.is.anchor told done
 ]
 
 pub gone_across : (p s e i j format : ℕ) (one other : TextFields) (w v : Working) → (is : IsSelectedAcross p s e i j format one other w)
@@ -318,7 +320,8 @@ gone_across p s e i j format one other w v is done =
       first_reads = a.draft.first;
       last_reads = a.draft.last;
       children = a.draft.at;
-      around = between w.forest v.forest p s e i j one other is.before is.between is.behind a.beside a.left a.first a.last a.in_first a.in_last a.leaf;
+      around = between w.forest v.forest p s e i j one other is.before is.between is.behind a.beside a.left a.first
+          a.last a.in_first a.in_last a.leaf;
       caret = a.caret;
     }
 

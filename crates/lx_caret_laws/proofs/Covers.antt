@@ -9,14 +9,14 @@ use Rattle.lx_forest.proofs.Lookups.{NoRepeats-children_of, has-child}
 use Rattle.lx_forest.proofs.Walks.{NoRepeats-preorder_of, behind-next, from-leaf, is_attached-up, tree_distinct}
 use Rattle.lx_forest.proofs.Within.{is_within-parent, is_within-self, is_within-top, is_within-trans, is_within-up}
 use Rattle.lx_forest.specs.Forest.{Forest}
-use Rattle.lx_forest.specs.Lookups.{IsForest, alone, behind, children_below, children_of, count, from, has, is_attached, is_within, key_of, keys_within, next_of, parent_of, preorder}
+use Rattle.lx_forest.specs.Lookups.{IsForest, alone, behind, children_below, children_of, from, has, is_attached, is_within, key_of, keys_within, next_of, parent_of}
 use Rattle.lx_trees.proofs.Cuts.{preorder-cut}
 use Rattle.lx_trees.proofs.NamedTrees.{count-without-alone}
 use Rattle.lx_trees.proofs.Siblings.{is_among-append}
 use Rattle.lx_trees.proofs.Subtrees.{alone-alone}
 use Rattle.lx_trees.specs.NamedTrees as named
 use Rattle.lx_trees.specs.Siblings.{NoRepeats, first_of, is_among, next_in}
-use Rattle.std.proofs.Common.{Bool, List, None, Option, Some, [], ap, append-nil, append_assoc, ap₂, arith, cond, eqb, false, inl, inr, not, refl, subst, sym, true, ℕ, ◌++◌, ◌<◌, ◌∙◌, ◌∷◌, ◌≡◌, ◌≢◌}
+use Rattle.std.proofs.Common.{Bool, List, None, Option, Some, [], ap, append-nil, append_assoc, ap₂, arith, cond, false, inl, inr, not, refl, subst, sym, true, ℕ, ◌++◌, ◌∙◌, ◌∷◌, ◌≡◌, ◌≢◌}
 use Rattle.std.proofs.lemmas.Bool.Decides.{eqb_tells}
 use Rattle.std.proofs.lemmas.Bool.{cases_Bool}
 use Rattle.std.proofs.lemmas.List.Elements.{filter-append}
@@ -97,7 +97,8 @@ tops f test (m ∷ ms) h there top low =
     (λ e. absurd (grind (arith, e, one.inside, is_within-parent f one.tree m h up)))) in
     let first : filter test (keys_within f m) ≡ m ∷ [] =
     ap (filter test) (keys-level f m h (there m here))
-    ∙ ap (λ t. cond t (m ∷ filter test (spread (keys_within f) (children_of f m))) (filter test (spread (keys_within f) (children_of f m)))) (top m here)
+    ∙ ap (λ t. cond t (m ∷ filter test (spread (keys_within f) (children_of f m))) (filter test (spread (keys_within f) (children_of f m))))
+    (top m here)
     ∙ ap (λ t. m ∷ t) none in
     filter-append test (keys_within f m) (spread (keys_within f) ms)
     ∙ ap₂ (λ a b. a ++ b) first

@@ -1,6 +1,6 @@
 -- What is read in a node and in those above it, where what is between two points below it gave way.
 use Rattle.lx_caret_laws.proofs.EditedIn.{around_it, there_by}
-use Rattle.lx_caret_laws.proofs.InPlace.{IsIn, above_not_below, apart_children, of_equals, out_below, place-behind, place-here, place-level, wrapped}
+use Rattle.lx_caret_laws.proofs.InPlace.{IsIn, apart_children, of_equals, out_below, place-behind, place-here, place-level, wrapped}
 use Rattle.lx_caret_laws.proofs.ReadLevels.{read-level, reads-same, reads_by, reads_known}
 use Rattle.lx_caret_laws.specs.Reading.{ReadsBetween, StaysAside, place_along, place_in, read_in, reads_in, said}
 use Rattle.lx_draft.proofs.Gaps.{parent_here}
@@ -10,16 +10,16 @@ use Rattle.lx_forest.proofs.Lookups.{NoRepeats-children_of, has-child, has-paren
 use Rattle.lx_forest.proofs.Tops.{is_within-child}
 use Rattle.lx_forest.proofs.Within.{is_within-parent, is_within-trans}
 use Rattle.lx_forest.specs.Forest.{Forest, Label}
-use Rattle.lx_forest.specs.Lookups.{IsForest, children_of, has, is_within, keys_within, label_of, parent_of}
+use Rattle.lx_forest.specs.Lookups.{IsForest, children_of, has, is_within, keys_within, parent_of}
 use Rattle.lx_node.specs.Kinds.{is_element}
 use Rattle.lx_node.specs.declared.cause.Point.{Point}
 use Rattle.lx_blocks.specs.Blocks.{is_at}
 use Rattle.lx_text.proofs.Places.{length-none}
 use Rattle.lx_text.specs.Texts.{text_length}
 use Rattle.lx_trees.specs.Siblings.{NoRepeats, is_among}
-use Rattle.std.proofs.Common.{Bool, List, Some, [], ap, append-nil, ap₂, arith, eqb, false, inl, inr, not, option_map, refl, subst, sym, true, ℕ, ◌++◌, ◌+◌, ◌||◌, ◌∙◌, ◌∷◌, ◌≡◌, ◌≢◌}
+use Rattle.std.proofs.Common.{Bool, List, Some, [], ap, append-nil, ap₂, arith, false, inl, inr, not, option_map, refl, subst, sym, true, ℕ, ◌++◌, ◌+◌, ◌||◌, ◌∙◌, ◌∷◌, ◌≡◌, ◌≢◌}
 use Rattle.std.proofs.lemmas.Bool.Decides.{eqb_tells}
-use Rattle.std.proofs.lemmas.Bool.{cases_Bool, or_parts}
+use Rattle.std.proofs.lemmas.Bool.{or_parts}
 
 -- What changed from f to g is below the node base, or at it, and so are both points: what holds neither stays, and all above the
 -- node say the same and have the same children.

@@ -2,7 +2,7 @@
 use Rattle.lx_caret.proofs.Lies.{text_at}
 use Rattle.lx_caret_laws.proofs.Covers.{AreBeside, out_of_front}
 use Rattle.lx_caret_laws.proofs.EditedIn.{place_leaf}
-use Rattle.lx_caret_laws.proofs.InPlace.{IsIn, apart_children, below_parent, of_equals, place-behind, place-here, place-level}
+use Rattle.lx_caret_laws.proofs.InPlace.{IsIn, apart_children, below_parent, place-behind, place-here, place-level}
 use Rattle.lx_caret_laws.proofs.ReadAcross.{OnlyBelow, read_aside, reads_across}
 use Rattle.lx_caret_laws.proofs.ReadLevels.{read-leaf, read-level, reads-append, reads-same}
 use Rattle.lx_caret_laws.specs.Ranges.{ReadsNow}
@@ -17,7 +17,7 @@ use Rattle.lx_edit_laws.proofs.Reading.{spread}
 use Rattle.lx_forest.proofs.Lookups.{NoRepeats-children_of, has-child, has-parent_of}
 use Rattle.lx_forest.proofs.Within.{is_within-parent, is_within-self, is_within-up}
 use Rattle.lx_forest.specs.Forest.{Forest, Label}
-use Rattle.lx_forest.specs.Lookups.{IsForest, children_of, fields_of, has, is_within, keys_within, kind_of, label_of, parent_of}
+use Rattle.lx_forest.specs.Lookups.{IsForest, children_of, has, is_within, keys_within, label_of, parent_of}
 use Rattle.lx_node.specs.Kinds.{is_element}
 use Rattle.lx_node.specs.declared.cause.Point.{Point}
 use Rattle.lx_node.specs.declared.fields.TextFields.{TextFields}
@@ -25,7 +25,7 @@ use Rattle.lx_text.proofs.Places.{length-append, length-none, offset_is, parts}
 use Rattle.lx_text.specs.Texts.{front_of, is_offset, rest_of, text_length}
 use Rattle.lx_trees.proofs.Siblings.{is_among-append}
 use Rattle.lx_trees.specs.Siblings.{NoRepeats, is_among}
-use Rattle.std.proofs.Common.{Bool, List, None, Some, [], ap, append-nil, append_assoc, ap₂, arith, eqb, false, inl, inr, option_map, refl, subst, sym, true, ℕ, ◌++◌, ◌+◌, ◌∙◌, ◌∷◌, ◌≡◌, ◌≢◌}
+use Rattle.std.proofs.Common.{List, Some, [], ap, append-nil, append_assoc, ap₂, arith, false, option_map, subst, sym, true, ℕ, ◌++◌, ◌+◌, ◌∙◌, ◌∷◌, ◌≡◌, ◌≢◌}
 use Rattle.std.proofs.lemmas.Bool.Decides.{eqb_tells}
 
 -- ---- lists of characters

@@ -34,7 +34,7 @@ use Rattle.lx_caret.specs.Lying.{EachPoint}
 use Rattle.lx_text.proofs.Places.{front-length, offset_is, rest-end}
 use Rattle.lx_text.proofs.Told.{front-end, front_at, rest_at}
 use Rattle.lx_text.specs.Texts.{front_of, rest_of, text_length}
-use Rattle.std.proofs.Common.{Bool, List, None, Ok, Option, Result, Some, [], ap, append-nil, ap₂, arith, cond, false, inl, inr, option_map, refl, subst, sym, true, ℕ, ◌++◌, ◌∙◌, ◌∷◌, ◌≡◌, ◌≢◌, ◌≤◌}
+use Rattle.std.proofs.Common.{List, None, Ok, Result, Some, [], ap, append-nil, ap₂, arith, cond, false, inl, inr, option_map, subst, sym, true, ℕ, ◌++◌, ◌∙◌, ◌∷◌, ◌≡◌, ◌≢◌, ◌≤◌}
 use Rattle.std.proofs.lemmas.Bool.Decides.{eqb_tells}
 use Rattle.std.specs.Prelude.{is_some}
 

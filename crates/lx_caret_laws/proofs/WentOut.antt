@@ -20,20 +20,18 @@ use Rattle.lx_forest.proofs.Lookups.{NoRepeats-children_of, children_of-take_out
 use Rattle.lx_forest.proofs.Order.{IsForest-take_out, IsForest-with_fields}
 use Rattle.lx_forest.proofs.Within.{is_within-parent, is_within-take_out, is_within-up, is_within-with_fields}
 use Rattle.lx_forest.specs.Edits.{take_out, with_fields}
-use Rattle.lx_forest.specs.Forest.{Forest, Label}
+use Rattle.lx_forest.specs.Forest.{Forest}
 use Rattle.lx_forest.specs.Lookups.{IsForest, children_of, fields_of, index_of, is_within, label_of, parent_of}
-use Rattle.lx_node.specs.declared.cause.Point.{Point}
 use Rattle.lx_node.specs.declared.fields.Fields.{Fields}
 use Rattle.lx_node.specs.declared.fields.TextFields.{TextFields}
 use Rattle.lx_select.specs.Rules.{is_behind, is_counting_children, offset_sum, splice_moves, spliced_offset, take_moves}
-use Rattle.lx_select.specs.Selection.{each_point, has_point_on}
-use Rattle.lx_select.specs.declared.selection.Selection.{Selection}
+use Rattle.lx_select.specs.Selection.{has_point_on}
 use Rattle.lx_select.specs.declared.selection.Selection.TheVariants.{Range}
 use Rattle.lx_text.proofs.Places.{parts}
 use Rattle.lx_text.specs.Texts.{front_of, rest_of, spliced_text}
 use Rattle.lx_trees.proofs.Siblings.{is_among-append, names_without-absent_list}
 use Rattle.lx_trees.specs.Siblings.{NoRepeats, is_among, names_without}
-use Rattle.std.proofs.Common.{Bool, List, None, Ok, Option, Result, Some, [], ap, append-nil, ap₂, arith, cond, eqb, false, inl, inr, length, refl, subst, sym, true, ℕ, ◌++◌, ◌+◌, ◌∙◌, ◌∷◌, ◌≡◌, ◌≢◌, ◌⊎◌}
+use Rattle.std.proofs.Common.{Bool, List, None, Ok, Option, Result, Some, [], ap, append-nil, arith, cond, eqb, false, inl, inr, refl, subst, sym, true, ℕ, ◌++◌, ◌∙◌, ◌∷◌, ◌≡◌, ◌≢◌, ◌⊎◌}
 use Rattle.std.proofs.lemmas.Bool.Decides.{eqb_tells, nat_tests}
 use Rattle.std.specs.Option.{option_or}
 use Rattle.std.specs.Prelude.{is_some}
