@@ -370,7 +370,7 @@ block_here f k block h up leaf kind =
       no_block (Some kinds.Embed) e = refl
       no_block (Some kind) e = absurd (cc)
 
-left_tells : (r : Result Broken Cause) (v : Working) → draft_left r ≡ Ok v → (b : Broken) × ((r ≡ Ok b) × (b.draft ≡ v))
+pub left_tells : (r : Result Broken Cause) (v : Working) → draft_left r ≡ Ok v → (b : Broken) × ((r ≡ Ok b) × (b.draft ≡ v))
 left_tells (Ok b) v e = let same : b.draft ≡ v = was_same b.draft v e in (b, (refl, same))
 left_tells (Err c) v e = absurd (cc)
 

@@ -1,5 +1,14 @@
 -- Typing over what is selected from one text to another: it is removed, and what is typed comes at the caret.
-use Rattle.lx_blocks.specs.Blocks.{is_at, passes}
+use Rattle.std.proofs.lemmas.Bool.{cases_Bool}
+use Rattle.lx_edit_laws.specs.Reading.{in_place_of}
+use Rattle.lx_trees.specs.Siblings.{is_among}
+use Rattle.lx_forest.proofs.Lookups.{is_among-children_of, parent_of-self}
+use Rattle.lx_draft.proofs.Gaps.{parent_here}
+use Rattle.lx_caret.specs.Paragraphs.{Broken, draft_left, empty_item, insert_paragraph_step, paragraph_at}
+use Rattle.lx_caret_laws.specs.Breaking.{IsBroken}
+use Rattle.lx_caret_laws.proofs.EditedIn.{around_it}
+use Rattle.lx_caret_laws.proofs.BrokenUp.{left_tells, told-breaking}
+use Rattle.lx_blocks.specs.Blocks.{block_of, is_at, passes}
 use Rattle.lx_blocks.specs.Ranges.{at_anchor, if_normal, lies, normal_at}
 use Rattle.lx_caret.proofs.Fit.{after_tells}
 use Rattle.lx_caret.specs.Deleting.{cluster_reach, delete_character_step, delete_word_step, word_reach}
@@ -7,13 +16,13 @@ use Rattle.lx_caret.specs.Inserting.{broken, insert_line_break_step, insert_tab_
 use Rattle.lx_edit.specs.Texts.{has_no_text}
 use Rattle.lx_caret.specs.Removing.{remove_text_step}
 use Rattle.lx_caret_laws.proofs.Across.{Across, across, children_stay, deleted_across, gone_across, label_stays, texts_apart}
-use Rattle.lx_caret_laws.proofs.Covers.{first_up}
+use Rattle.lx_caret_laws.proofs.Covers.{among_at, first_up, last_up}
 use Rattle.lx_caret_laws.proofs.ReadAcross.{place_over}
-use Rattle.lx_caret_laws.proofs.ReadBeside.{only_below, place_still}
+use Rattle.lx_caret_laws.proofs.ReadBeside.{inside, only_below, place_still}
 use Rattle.lx_caret_laws.proofs.TypedAll.{told-typing}
 use Rattle.lx_caret_laws.proofs.TypedOver.{normal_mode, removes_nothing}
 use Rattle.lx_caret_laws.specs.Carets.{IsSound}
-use Rattle.lx_caret_laws.specs.Ranges.{IsGoneAcross, IsSelectedAcross, IsTypedAcross, RangesGiveWay}
+use Rattle.lx_caret_laws.specs.Ranges.{IsGoneAcross, IsPartedOver, IsSelectedAcross, IsTypedAcross, RangesGiveWay}
 use Rattle.lx_caret_laws.specs.Reading.{ReadsBetween, place_in, read_in}
 use Rattle.lx_caret_laws.specs.Typing.{IsCaretAt, IsTyped}
 use Rattle.lx_draft.proofs.Touched.{is_some-kind_of}
@@ -23,8 +32,8 @@ use Rattle.lx_draft.specs.Working.{Working}
 use Rattle.lx_edit.specs.Edits.{text_point}
 use Rattle.lx_forest.proofs.Within.{is_within-up}
 use Rattle.lx_forest.specs.Forest.{Forest, Label}
-use Rattle.lx_forest.specs.Lookups.{has, is_within, kind_of, label_of}
-use Rattle.lx_node.specs.Kinds.{is_element}
+use Rattle.lx_forest.specs.Lookups.{children_of, has, is_within, kind_of, label_of}
+use Rattle.lx_node.specs.Kinds.{is_element, is_text_block}
 use Rattle.lx_node.specs.Limits.{most_written}
 use Rattle.lx_node.specs.declared.cause.Cause.{Cause}
 use Rattle.lx_node.specs.declared.cause.Point.{Point}
@@ -105,8 +114,8 @@ allows p s e i j format one other before mid rest w v a =
     }
 
 -- the draft between: what is selected was removed, and the same command goes on at the caret
-record Between (p s e i j format : ℕ) (one other : TextFields) (before mid rest : List ℕ) (next : Working → Result Working Cause) (w v : Working)
-    : Type 0 where
+record Between {A : Type 0} (p s e i j format : ℕ) (one other : TextFields) (before mid rest : List ℕ) (next : Working → Result A Cause)
+    (w : Working) (v : A) : Type 0 where
   draft : Working
   across : Across p s e i j format one other before mid rest w draft
   gone : IsGoneAcross p s e i j format one other before rest w draft
@@ -114,7 +123,7 @@ record Between (p s e i j format : ℕ) (one other : TextFields) (before mid res
   sound : IsSound draft
   again : after (remove_text_step draft) next ≡ Ok v
 
-between : (next : Working → Result Working Cause) (p s e i j format : ℕ) (one other : TextFields) (w v : Working)
+between : {A : Type 0} (next : Working → Result A Cause) (p s e i j format : ℕ) (one other : TextFields) (w : Working) (v : A)
     → (is : IsSelectedAcross p s e i j format one other w) → after (remove_text_step w) next ≡ Ok v
     → Between p s e i j format one other is.before is.between is.behind next w v
 between next p s e i j format one other w v is done =
@@ -177,6 +186,67 @@ typed_into new p s e i j one other w v is done =
       caret = told-typing.caret new s i left u v in_it;
     }
 
+-- ---- a paragraph
+
+parted_over : (p s e i j format : ℕ) (one other : TextFields) (w v : Working) → IsSelectedAcross p s e i j format one other w
+    → is_at is_text_block w.forest p ≡ true → draft_left (insert_paragraph_step w) ≡ Ok v
+    → (new : ℕ) × IsPartedOver (place_in w.forest p (text_point s i)) (place_in w.forest p (text_point e j)) p new s e w v
+unfolding insert_paragraph_step
+parted_over p s e i j format one other w v is block done =
+    let next : Working → Result Broken Cause =
+    λ u. after (at_anchor (λ q format. paragraph_at (empty_item u) (block_of u.forest q.key) q) u) (λ x.
+    Ok (record { draft = x; item = empty_item u })) in
+    let told = left_tells (after (remove_text_step w) next) v done in
+    let m = between next p s e i j format one other w told.0 is told.1.0 in
+    let a = m.across in
+    let f : Forest = w.forest in
+    let g : Forest = m.draft.forest in
+    let start : Point = text_point s i in
+    let n : ℕ = place_in f p start in
+    let up_s = first_up f p s e is.before is.between is.behind a.beside in
+    let up_e = last_up f p s e is.before is.between is.behind a.beside in
+    let not_s : p ≢ s = λ same. absurd (grind (arith, same, up_s, parent_of-self f s a.beside.order)) in
+    let not_e : p ≢ e = λ same. absurd (grind (arith, same, up_e, parent_of-self f e a.beside.order)) in
+    let broken : IsBroken p s i format m.draft v = record {
+      sound = m.sound;
+      up = parent_here g p s a.left.ordered (ap (is_among s) a.left.at ∙ among_at is.before s (e ∷ is.behind));
+      kind = ap (passes is_text_block) (kind_same f g p (a.draft.labels p not_s not_e)) ∙ block;
+      caret = a.caret;
+      done = ap draft_left m.again ∙ ap (λ x. Ok x) told.1.1;
+    } in
+    let made = told-breaking.parted p s i format m.draft v broken in
+    let parted = made.1 in
+    let still = place_still f g p s e i j one other is.before is.between is.behind a.beside a.left a.first a.last a.in_first a.in_last in
+    let around = around_it _ _ [] _ _
+    (inside f g p s e i j one other is.before is.between is.behind a.beside a.left a.first a.last a.in_first a.in_last) in
+    let front : List ℕ = front_of n (read_in f p) in
+    let rest : List ℕ = rest_of (place_in f p (text_point e j)) (read_in f p) in
+    let left : read_in g p ≡ front ++ rest = around.is ∙ ap (λ t. t ++ rest) (append-nil front) in
+    let long : text_length front ≡ n = offset_is n (read_in f p) around.first in
+    let room = allows p s e i j format one other is.before is.between is.behind w m.draft a in (
+      made.0,
+      record {
+        before = parted.before ∙ ap (λ o. front_of o (read_in g p)) still ∙ front_at n front rest (read_in g p) left long;
+        behind = parted.behind ∙ ap (λ o. rest_of o (read_in g p)) still ∙ rest_at n front rest (read_in g p) left long;
+        fresh = elim (cases_Bool (has made.0 f)) [
+          | inl there ↦ absurd (let bad : false ≡ true = sym parted.fresh ∙ room.there made.0 there in cc)
+          | inr free ↦ free
+        ];
+        order = λ q up.
+            let other : q ≢ p = λ same. absurd (grind (arith, same, up, parent_of-self f p a.beside.order)) in
+            let same : children_of g q ≡ children_of f q = a.draft.others q other in
+            let among : is_among p (children_of f q) ≡ true = is_among-children_of f p q a.beside.order ∙ grind (arith, up, eqb_tells q q) in
+            parted.order q (parent_here g q p a.left.ordered (ap (is_among p) same ∙ among)) ∙ ap (in_place_of p (p ∷ (made.0 ∷ []))) same;
+        aside = record {
+          each = λ x so first second.
+              let out : is_within g x s ≡ false = a.draft.within x ∙ first in
+              let early = m.gone.around.aside.each x so first second in
+              let late = parted.aside.each x (room.there x so) out out in
+              (late.0 ∙ early.0, late.1 ∙ early.1);
+        };
+      },
+    )
+
 pub told-ranges : RangesGiveWay
 unfolding delete_character_step delete_word_step insert_text_step insert_tab_step insert_line_break_step
 told-ranges = record {
@@ -195,4 +265,5 @@ told-ranges = record {
   line_break = λ p s e i j format one other w v is done.
       added_across [] (at_anchor broken) p s e i j format one other w v is done
       (λ u caret again. told-typing.line_break (text_point s i) format u v caret again);
+  parted = λ p s e i j format one other w v is block done. parted_over p s e i j format one other w v is block done;
 }

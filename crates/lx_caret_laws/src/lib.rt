@@ -8,7 +8,7 @@
 //!   nothing else (`deleting_is_exact`).
 //! * Formatting changes no character, and no node but the covered texts and their parents (`formatting_keeps_text`).
 //! * What is selected from one text to another of the same parent goes when it is removed or deleted, and gives way to
-//!   what one types (`ranges_give_way`).
+//!   what one types or to a new paragraph (`ranges_give_way`).
 //! * A paragraph that is inserted parts what is read in its block at the caret (`breaking_parts_text`).
 //! * Where one types, deletes or inserts a paragraph, all that the caret isn't in stays as it is.
 //!
