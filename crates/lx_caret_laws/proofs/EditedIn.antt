@@ -86,7 +86,7 @@ says_by : (f g : Forest) (k : ℕ) (now : List ℕ) → OnlyReads k now f g → 
 says_by f g k now only x other = ap (λ s. text_of (option_map (λ (l : Label). l.fields) (option_map (λ (y : Spot Label). y.label) s)))
     (only.others x other)
 
-edited_at : (f g : Forest) (k : ℕ) (now : List ℕ) → IsForest f → IsForest g → has k f ≡ true → OnlyReads k now f g → OnlyAt f g k k
+pub edited_at : (f g : Forest) (k : ℕ) (now : List ℕ) → IsForest f → IsForest g → has k f ≡ true → OnlyReads k now f g → OnlyAt f g k k
 edited_at f g k now h j there only =
     let own : is_within f k k ≡ true = is_within-self f k ∙ there in
     let apart : (x : ℕ) → (is_within f x k ≡ false) ⊎ (is_within f k x ≡ false) → x ≢ k =

@@ -88,7 +88,7 @@ until_itself [] = refl
 until_itself (k ∷ ks) = grind (arith, eqb_tells k k)
 
 -- nothing lies between two points of a text
-none_covered : (f : Forest) (k from to : ℕ) → covered f (text_point k from) (text_point k to) ≡ []
+pub none_covered : (f : Forest) (k from to : ℕ) → covered f (text_point k from) (text_point k to) ≡ []
 none_covered f k from to = ap (filter (λ q. not (is_within f q k))) (until_itself (behind f k))
 
 -- a block isn't apart from itself

@@ -4,6 +4,10 @@ pub mod BrokenParts
 pub mod BrokenUp
 pub mod Covers
 pub mod EditedIn
+pub mod Followed
+pub mod FormatKept
+pub mod FormatsIn
+pub mod FormatsTwice
 pub mod Formatted
 pub mod FormattedAside
 pub mod Gone
@@ -11,11 +15,14 @@ pub mod InBlocks
 pub mod InPlace
 pub mod Opened
 pub mod Placed
+pub mod PlacesAfter
 pub mod ReadAcross
 pub mod ReadBeside
 pub mod ReadLevels
 pub mod Spliced
 pub mod SplitSaid
+pub mod Stands
+pub mod Turned
 pub mod TypedAcross
 pub mod TypedAll
 pub mod TypedIn

@@ -38,7 +38,7 @@ use Rattle.std.proofs.lemmas.Bool.Decides.{eqb_tells}
 use Rattle.std.specs.Prelude.{is_some}
 
 -- the fields of a new text
-abbrev fields_typed : List ℕ → ℕ → List ℕ → TextFields
+abbrev pub fields_typed : List ℕ → ℕ → List ℕ → TextFields
 fields_typed text format style = record { text = text; format = format; detail = 0; mode = mode.Normal; style = style }
 
 -- ---- a new text
@@ -65,7 +65,7 @@ new_around text k at point.Element format w v sound place may e =
 -- ---- into the text
 
 -- a point that lies on a text counts its characters
-counts_text : (w : Working) (k at : ℕ) (kind : PointKind) → lies w.forest (record { key = k; offset = at; kind = kind }) ≡ true
+pub counts_text : (w : Working) (k at : ℕ) (kind : PointKind) → lies w.forest (record { key = k; offset = at; kind = kind }) ≡ true
     → kind_of w.forest k ≡ Some kinds.Text → kind ≡ point.Text
 unfolding is_element
 counts_text w k at point.Text place is = refl
@@ -75,13 +75,13 @@ counts_text w k at point.Element place is =
     (is_place w.forest (record { key = k; offset = at; kind = point.Element }) point.Element) inner).0 in
     let bad : false ≡ true = sym (ap (is_counted_in point.Element) is) ∙ counted in absurd (cc)
 
-of_format_tells : (format : ℕ) (o : Option TextFields) → is_of_format format o ≡ true → (t : TextFields) × ((o ≡ Some t) × (t.format ≡ format))
+pub of_format_tells : (format : ℕ) (o : Option TextFields) → is_of_format format o ≡ true → (t : TextFields) × ((o ≡ Some t) × (t.format ≡ format))
 of_format_tells format None e = absurd (cc)
 of_format_tells format (Some t) e = (t, (refl, grind (arith, e, eqb_tells t.format format)))
 
 -- ---- the command
 
-not_empty : (text : List ℕ) → text ≢ [] → has_no_text text ≡ false
+pub not_empty : (text : List ℕ) → text ≢ [] → has_no_text text ≡ false
 not_empty [] some = absurd (some refl)
 not_empty (c ∷ cs) some = refl
 
@@ -132,7 +132,7 @@ put_around kind x p w u sound place may e = by_kind p.kind place may e where
   by_kind point.Element place may e = added_element (text_of (Some x)) p.key p.offset kind x w u sound refl place e
 
 -- what follows at a caret, since nothing is removed there
-at_point_of : (step : Point → ℕ → Working → Result Working Cause) (p : Point) (format : ℕ) (w v : Working) → w.selection ≡ Range p p format
+pub at_point_of : (step : Point → ℕ → Working → Result Working Cause) (p : Point) (format : ℕ) (w v : Working) → w.selection ≡ Range p p format
     → after (remove_text_step w) (at_anchor step) ≡ Ok v → (lies w.forest p ≡ true) × (step p format w ≡ Ok v)
 at_point_of step p format w v selects e =
     let first = after_tells (remove_text_step w) (at_anchor step) v e in

@@ -49,7 +49,7 @@ pub has_label : (f g : Forest) (q : ℕ) → has q f ≡ true → label_of g q �
 has_label f g q so e =
     sym (is_some-kind_of g q) ∙ ap (λ o. is_some (option_map (λ (l : Label). l.kind) o)) e ∙ is_some-kind_of f q ∙ so
 
-among_placed : (k q : ℕ) (ks xs : List ℕ) → is_among k xs ≡ true → is_among q ks ≡ true → is_among q (in_place_of k ks xs) ≡ true
+pub among_placed : (k q : ℕ) (ks xs : List ℕ) → is_among k xs ≡ true → is_among q ks ≡ true → is_among q (in_place_of k ks xs) ≡ true
 among_placed k q ks [] there among = absurd (cc)
 among_placed k q ks (x ∷ xs) there among = elim (eqb_tells x k) [
   | inl own ↦ rw own.0 (among_front q ks xs among)
@@ -75,16 +75,16 @@ module _ (typed : List ℕ) (k at : ℕ) (kind : Kind) (x : Fields) (w s v : Wor
   abbrev pr : ℕ
   pr = b.parent
 
-  no_element : is_at is_element w.forest k ≡ false
+  pub no_element : is_at is_element w.forest k ≡ false
   no_element =
       let inner = (both (is_attached w.forest k) (lies_in w.forest (text_point k at)) place).1 in
       characters_no_element (kind_of w.forest k) (both (is_counted_in point.Text (kind_of w.forest k))
       (is_place w.forest (text_point k at) point.Text) inner).0
 
-  leaf : children_of w.forest k ≡ []
+  pub leaf : children_of w.forest k ≡ []
   leaf = no_children w.forest k h sound.held no_element
 
-  there : has k w.forest ≡ true
+  pub there : has k w.forest ≡ true
   there = known (kind_of w.forest k) refl where
     known : (c : Option Kind) → kind_of w.forest k ≡ c → has k w.forest ≡ true
     known None is =
@@ -93,7 +93,7 @@ module _ (typed : List ℕ) (k at : ℕ) (kind : Kind) (x : Fields) (w s v : Wor
         let bad : false ≡ true = sym (ap (is_counted_in point.Text) is) ∙ counted in absurd (cc)
     known (Some found) is = sym (is_some-kind_of w.forest k) ∙ ap is_some is
 
-  up : parent_of w.forest k ≡ Some pr
+  pub up : parent_of w.forest k ≡ Some pr
   up = sym (o.stay.parents k there) ∙ b.up
 
   above : is_within w.forest pr k ≡ true
@@ -102,21 +102,21 @@ module _ (typed : List ℕ) (k at : ℕ) (kind : Kind) (x : Fields) (w s v : Wor
   parent_there : has pr w.forest ≡ true
   parent_there = has-parent_of w.forest k pr up
 
-  apart : k ≢ pr
+  pub apart : k ≢ pr
   apart e = absurd (grind (arith, e, up, parent_of-self w.forest k h, eqb_tells k k))
 
   -- the same label, and the same children
-  label_still : (q : ℕ) → has q w.forest ≡ true → q ≢ k → label_of v.forest q ≡ label_of w.forest q
+  pub label_still : (q : ℕ) → has q w.forest ≡ true → q ≢ k → label_of v.forest q ≡ label_of w.forest q
   label_still q so other =
       let first = o.stay.labels q so other in b.labels q (has_label w.forest s.forest q so first) ∙ first
 
   children_there : (q : ℕ) → has q w.forest ≡ true → q ≢ pr → children_of v.forest q ≡ children_of w.forest q
   children_there q so other = b.children q other ∙ o.stay.children q so (λ e. other (let f : Some q ≡ Some pr = sym e ∙ up in cc))
 
-  order : children_of v.forest pr ≡ in_place_of k (ks ++ rest) (children_of w.forest pr)
+  pub order : children_of v.forest pr ≡ in_place_of k (ks ++ rest) (children_of w.forest pr)
   order = b.order ∙ ap (in_place_of k ks) (o.stay.order pr up) ∙ in_place_of-again k ks rest (children_of w.forest pr)
 
-  only_at : OnlyAt w.forest v.forest pr k
+  pub only_at : OnlyAt w.forest v.forest pr k
   only_at =
       let own : is_within w.forest k k ≡ true = is_within-self w.forest k ∙ there in
       let own_parent : is_within w.forest pr pr ≡ true = is_within-self w.forest pr ∙ parent_there in
@@ -132,7 +132,7 @@ module _ (typed : List ℕ) (k at : ℕ) (kind : Kind) (x : Fields) (w s v : Wor
       }
 
   -- each piece is read as it is in the draft before the new text came
-  piece_read : (q : ℕ) → is_among q (k ∷ rest) ≡ true → read_in v.forest q ≡ said s.forest q
+  pub piece_read : (q : ℕ) → is_among q (k ∷ rest) ≡ true → read_in v.forest q ≡ said s.forest q
   piece_read q among =
       let bare : children_of s.forest q ≡ [] = o.stay.bare leaf q among in
       let there_k : is_among k (children_of w.forest pr) ≡ true = grind (arith, is_among-children_of w.forest k pr h, up, eqb_tells pr pr) in
@@ -251,7 +251,7 @@ module _ (typed : List ℕ) (k i : ℕ) (kind : Kind) (x : Fields) (w v : Workin
   h' : IsForest w.forest
   h' = sound.ready.in_order
 
-  only_here : OnlyAt w.forest v.forest k k
+  pub only_here : OnlyAt w.forest v.forest k k
   only_here =
       let own : is_within w.forest k k ≡ true = is_within-self w.forest k ∙ there in
       record {

@@ -1,6 +1,8 @@
 pub mod Breaking
 pub mod Carets
 pub mod Deleting
+pub mod Following
+pub mod Formats
 pub mod Formatting
 pub mod Ranges
 pub mod Reading
