@@ -72,6 +72,7 @@ function wayTo(hosts, [key, offset]) {
  * @param {ReplyPoint} second
  */
 export function isBefore(hosts, first, second) {
+  if (first[0] === second[0]) return first[1] < second[1]; // as in most selections: then no list is looked through
   const [ours, theirs] = [wayTo(hosts, first), wayTo(hosts, second)];
   const fork = ours.findIndex((step, index) => step !== theirs[index]);
   return fork < 0 ? ours.length < theirs.length : fork < theirs.length && ours[fork] < theirs[fork];

@@ -23,7 +23,8 @@ export function keepInSight(page) {
 function scrollToCaret(page) {
   const place = page.view.element.contains(getSelection().focusNode) && placeOfCaret(getSelection());
   if (!place) return;
-  const bars = [...document.querySelectorAll('#bar, .table-bar')].map(bar => bar.getBoundingClientRect().bottom);
+  const bar = document.getElementById('bar');
+  const bars = [bar, ...bar.querySelectorAll('.table-bar')].map(each => each.getBoundingClientRect().bottom);
   const ceiling = Math.max(0, ...bars) + ROOM / 2, floor = document.documentElement.clientHeight - ROOM;
   const tooHigh = place.top - ceiling, tooLow = place.bottom - floor;
   if (tooHigh < 0) scrollBy({ top: tooHigh, behavior: 'instant' });

@@ -224,6 +224,9 @@ function isToKeep(line, reply) {
 
 /** @param {Page} page */
 function titleOf({ view: { element } }) {
-  const texts = Array.from(element.children, child => child.textContent?.trim() ?? '');
-  return (texts.find(text => text !== '') ?? '').slice(0, 60);
+  for (const child of element.children) {
+    const text = child.textContent?.trim() ?? '';
+    if (text !== '') return text.slice(0, 60);
+  }
+  return '';
 }

@@ -93,7 +93,7 @@ const namesWithKeys = Object.keys(controls).filter(name => controls[name].keys);
 
 /** Whether there is one empty paragraph and nothing else. */
 function isEmpty({ view: { element, hosts } }) {
-  if (element.childElementCount !== 1) return false;
+  if (element.firstElementChild === null || element.firstElementChild.nextElementSibling) return false;
   const [first] = hosts.root.children;
   return first.tag === 'p' && first.children.length === 0;
 }
