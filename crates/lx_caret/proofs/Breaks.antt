@@ -5,7 +5,7 @@ use Rattle.std.specs.List.{list_all}
 use Rattle.std.proofs.lemmas.Bool.Decides.{eqb_tells, nat_tests}
 use Rattle.lx_trees.specs.Siblings.{is_among}
 use Rattle.lx_node.specs.Plain.{plain_element}
-use Rattle.lx_node.specs.Kinds.{is_element, is_text_block, is_inline, is_link, has_characters}
+use Rattle.lx_node.specs.Kinds.{is_element, is_text_block, is_inline, is_link, has_characters, may_hold}
 use Rattle.lx_node.specs.declared.kind.Kind.{Kind}
 use Rattle.lx_node.specs.declared.kind.Kind.TheVariants as kinds
 use Rattle.lx_node.specs.declared.cause.Cause.{Cause}
@@ -14,11 +14,11 @@ use Rattle.lx_node.specs.declared.cause.PointKind.{PointKind}
 use Rattle.lx_node.specs.declared.cause.PointKind.TheVariants as point
 use Rattle.lx_trees.proofs.Subtrees.{count-alone-le}
 use Rattle.lx_forest.specs.Forest.{Forest, Label}
-use Rattle.lx_forest.specs.Lookups.{key_of, has, label_of, kind_of, fields_of, index_of, children_of, size_of, ancestors, is_attached, IsForest}
+use Rattle.lx_forest.specs.Lookups.{key_of, has, label_of, kind_of, fields_of, index_of, children_of, size_of, ancestors, is_attached, IsForest, IsHeld}
 use Rattle.lx_forest.proofs.Up.{attached_above}
 use Rattle.lx_forest.proofs.Within.{is_within-ancestors}
-use Rattle.lx_draft.specs.Working.{Working}
-use Rattle.lx_draft.specs.Covering.{KindsStay}
+use Rattle.lx_draft.specs.Working.{Working, TextsAreShort}
+use Rattle.lx_draft.specs.Covering.{IsReady, KindsStay}
 use Rattle.lx_draft.specs.Selecting.{is_counted_in}
 use Rattle.lx_draft.specs.Faults.{after}
 use Rattle.lx_draft.specs.Steps.{new_step}
@@ -237,12 +237,18 @@ broken_fits w b fit e =
     subst Fit is (at_anchor_fits (λ p format. paragraph_at (empty_item w) (block_of w.forest p.key) p) w first.0 fit
     (λ p format place so. paragraph_fits (empty_item w) (block_of w.forest p.key) p w first.0 fit place refl so) first.1.0)
 
-pub lies-insert_paragraph : LeavesLying (λ w. draft_left (insert_paragraph_step w))
+-- what an inserted paragraph leaves is a draft on which a command goes on, as the one that ends a list at an empty item
+pub insert_paragraph_fits : (w : Working) (b : Broken) → IsReady w → IsHeld may_hold w.forest → TextsAreShort w → insert_paragraph_step w ≡ Ok b
+    → Fit b.draft
 unfolding insert_paragraph_step
-lies-insert_paragraph w v ready held short e =
-    let told = left_tells (insert_paragraph_step w) v e in
+insert_paragraph_fits w b ready held short e =
     let first =
     after_tells (remove_text_step w)
     (λ u. after (at_anchor (λ p format. paragraph_at (empty_item u) (block_of u.forest p.key) p) u) (λ x. Ok (record { draft = x; item = empty_item u })))
-    told.0 told.1.0 in
-    (subst Fit told.1.1 (broken_fits first.0 told.0 (remove_text_fits w first.0 ready held short first.1.0) first.1.1)).lying
+    b e in
+    broken_fits first.0 b (remove_text_fits w first.0 ready held short first.1.0) first.1.1
+
+pub lies-insert_paragraph : LeavesLying (λ w. draft_left (insert_paragraph_step w))
+lies-insert_paragraph w v ready held short e =
+    let told = left_tells (insert_paragraph_step w) v e in
+    (subst Fit told.1.1 (insert_paragraph_fits w told.0 ready held short told.1.0)).lying

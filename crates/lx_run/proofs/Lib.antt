@@ -9,6 +9,7 @@ pub mod Emptied
 pub mod Ends
 pub mod Gathered
 pub mod Held
+pub mod Lying
 pub mod Made
 pub mod Paced
 pub mod Paths

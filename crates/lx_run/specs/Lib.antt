@@ -7,3 +7,4 @@ pub mod Holding
 pub mod Running
 pub mod Refusals
 pub mod Lines
+pub mod Laws

@@ -6,6 +6,7 @@ mod commands;
 mod dispatching;
 mod ending;
 mod holding;
+mod laws;
 mod lines;
 mod names;
 mod putting;
@@ -21,5 +22,6 @@ mod stepping;
 mod turning;
 
 pub use ending::Ending;
+pub use laws::caret_commands_lie;
 pub use lines::{run_deferred, run_dispatch, run_steps};
 pub use refusal::Refusal;
