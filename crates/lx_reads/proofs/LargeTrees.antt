@@ -1,12 +1,15 @@
 -- Trees that stand alone, before and behind a change of a node's fields.
-use Rattle.std.proofs.Common.{◌≡◌, ◌≢◌, ◌∙◌, ℕ, [], ◌∷◌, true, sym, ap, subst, refl}
+use Rattle.std.proofs.Common.{◌≡◌, ◌≢◌, ◌∙◌, ℕ, ◌+◌, ◌≤◌, [], ◌∷◌, None, true, sym, ap, subst, refl}
 use Rattle.lx_trees.specs.Trees.{nil}
+use Rattle.lx_node.specs.Limits.{last_u32}
 use Rattle.lx_node.specs.OfKind.{IsOfKind, is_of_kind, fits_kind, is_element_of, is_extra_of, is_plain}
 use Rattle.lx_node.specs.Kinds.{is_possible}
 use Rattle.lx_node.specs.Plain.{plain_element}
 use Rattle.lx_node.specs.declared.fields.Fields.{Fields}
 use Rattle.lx_node.specs.declared.kind.Kind.TheVariants.{Quote}
+use Rattle.lx_host.specs.Hosts.{HostTree}
 use Rattle.lx_forest.specs.Forest.{Forest}
+use Rattle.lx_forest.specs.Covered.{Marking, AreCovered}
 use Rattle.lx_forest.specs.Lookups.{has, alone, roots, IsForest}
 use Rattle.lx_forest.specs.Edits.{with_fields, drop_detached}
 use Rattle.lx_forest.proofs.Edits.{has-root}
@@ -15,6 +18,7 @@ use Rattle.lx_forest.proofs.Order.{IsForest-with_fields}
 use Rattle.lx_forest.proofs.Within.{alone-with_fields}
 use Rattle.lx_links.specs.Stands.{Sound}
 use Rattle.lx_compare.specs.Differing.{KeepsKinds}
+use Rattle.lx_reconcile.specs.Allowed.{Shows, unkept}
 use Rattle.lx_reconcile.proofs.Frozen.{one_left, swept_alone}
 use Rattle.lx_reconcile.proofs.StartEnd.{one_tree}
 
@@ -51,3 +55,27 @@ read_alone f g same order only = ap (alone 0) same ∙ one_tree f order only
 
 pub read_root : (f g : Forest) → g ≡ f → IsForest f → has 0 g ≡ true
 read_root f g same order = ap (has 0) same ∙ has-root f order
+
+-- ---- what finding operations asks
+
+-- two trees that may be read, marks that cover them, a view of the first, and ids enough
+pub record MayTell (f g : Forest) (mk : Marking) (v : HostTree) : Type 0 where
+  pub rooted_before : has 0 f ≡ true
+  pub rooted_after : has 0 g ≡ true
+  pub covered : AreCovered (alone 0 f) (alone 0 g) mk
+  pub shown : Shows v (alone 0 f)
+  pub room : v.next + unkept (alone 0 f) None (alone 0 g) ≤ last_u32
+
+pub may_tell : (old new f g : Forest) (mk : Marking) (v : HostTree) → f ≡ old → g ≡ new → IsForest old → IsForest new
+    → roots old ≡ 0 ∷ [] → roots new ≡ 0 ∷ [] → AreCovered old new mk → Shows v (alone 0 old) → v.next + unkept old None new ≤ last_u32
+    → MayTell f g mk v
+may_tell old new f g mk v was is before after one other covered shown room =
+    let first : alone 0 f ≡ old = read_alone old f was before one in
+    let second : alone 0 g ≡ new = read_alone new g is after other in
+    record {
+      rooted_before = read_root old f was before;
+      rooted_after = read_root new g is after;
+      covered = subst (λ t. AreCovered t (alone 0 g) mk) (sym first) (subst (λ t. AreCovered old t mk) (sym second) covered);
+      shown = subst (λ t. Shows v (alone 0 t)) (sym was) shown;
+      room = subst (λ t. v.next + unkept t None (alone 0 g) ≤ last_u32) (sym first) (subst (λ t. v.next + unkept old None t ≤ last_u32) (sym second) room);
+    }

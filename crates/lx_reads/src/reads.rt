@@ -10,7 +10,7 @@ use lx_compare::differences;
 use lx_draft::State;
 use lx_links::{Counted, Links};
 use lx_node::{Cause, Fault, Fields, Key, Kind, NoMemory};
-use lx_reconcile::{fresh, operations};
+use lx_reconcile::{fresh, operations, operations_by_parents};
 use lx_select::Selection;
 use std::alloc::Global;
 
@@ -78,9 +78,10 @@ fn with_text(alloc: Global, links: &Links, key: Key) -> Result<Links, Fault>
     Ok(made)
 }
 
-/// How often the two trees are read to find the operations from the one to the other, where a view has the ids.
+/// How often the two trees are read to find the operations from the one to the other, where a view has the ids: by marks
+/// that cover neighbours, and by parents alone.
 #[tactic(auto, using(crate::proofs::LargeTrees::order_of_one))]
-fn reads_between<'a>(alloc: Global, old: &'a State, new: &'a Links) -> Result<u64, NoMemory>
+fn reads_between<'a>(alloc: Global, old: &'a State, new: &'a Links) -> Result<(u64, u64), NoMemory>
     requires old_alone { roots old.now.links ≡ 0 ∷ [] }
     requires new_alone { roots new.now ≡ 0 ∷ [] }
     requires kinds { KeepsKinds old.now.links new.now }
@@ -93,19 +94,25 @@ fn reads_between<'a>(alloc: Global, old: &'a State, new: &'a Links) -> Result<u6
     let mut before = Counted::new(&old.links);
     let mut after = Counted::new(new);
     let _batch = operations(alloc, &mut before, &mut after, &marks, &view)?;
-    Ok(before.reads().saturating_add(after.reads()))
+    let mut was = Counted::new(&old.links);
+    let mut is = Counted::new(new);
+    let _same = operations_by_parents(alloc, &mut was, &mut is, &marks, &view)?;
+    Ok((
+        before.reads().saturating_add(after.reads()),
+        was.reads().saturating_add(is.reads()),
+    ))
 }
 
-/// How many nodes a large tree has, and how often the trees are read where its last text alone is another. A node that is
-/// marked is the root, the last quote, its last paragraph or the text. In each of the two trees they have 80 + 80 + 1
-/// children, and every node is kept: at most 8 * (161 + 161 + 0 + 1) reads.
-pub(crate) fn set_last_text(alloc: Global) -> Result<(u32, u64), Fault> {
+/// How many nodes a large tree has, and how often the trees are read in either way where its last text alone is another. A
+/// node that is marked is the root, the last quote, its last paragraph or the text. In each of the two trees they have
+/// 80 + 80 + 1 children, and every node is kept: at most 8 * (161 + 161 + 0 + 1) reads.
+pub(crate) fn set_last_text(alloc: Global) -> Result<(u32, u64, u64), Fault> {
     let state = State {
         links: large_tree(alloc)?,
         selection: Selection::Nothing,
     };
     let nodes = state.links.len();
     let after = with_text(alloc, &state.links, Key(12_880))?;
-    let reads = reads_between(alloc, &state, &after)?;
-    Ok((nodes, reads))
+    let (reads, by_parents) = reads_between(alloc, &state, &after)?;
+    Ok((nodes, reads, by_parents))
 }

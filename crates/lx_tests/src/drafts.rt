@@ -28,7 +28,7 @@ pub(crate) fn begun(alloc: Global, state: &State) -> Result<Draft, Fault>
 }
 
 /// A draft of a new state, with that paragraph.
-fn filled(alloc: Global) -> Result<Draft, Fault> {
+pub(crate) fn filled(alloc: Global) -> Result<Draft, Fault> {
     let state = State::new(alloc)?;
     begun(alloc, &state)
 }
@@ -132,7 +132,7 @@ fn told_selection(alloc: Global, selection: &Selection) -> Result<String, Fail> 
 }
 
 /// A place in the text of a draft.
-fn place(offset: u32) -> Point {
+pub(crate) fn place(offset: u32) -> Point {
     Point {
         key: Key(2),
         offset,
