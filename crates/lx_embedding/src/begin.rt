@@ -1,4 +1,4 @@
-//! What README shows of the editor as a library.
+//! What docs/LIBRARY.md shows of the editor as a library.
 
 ghost use Rattle.std.specs.Prelude.{IfOk, ◌≤◌};
 
