@@ -34,7 +34,7 @@ use Rattle.lx_list_laws.proofs.LevelSteps.{was_moved_behind, was_moved_to_front}
 
 -- no name comes right before itself
 
-before_itself : (before : Option ℕ) (x : ℕ) (xs : List ℕ) → is_named before x ≡ false → previous_from before xs x ≢ Some x
+pub before_itself : (before : Option ℕ) (x : ℕ) (xs : List ℕ) → is_named before x ≡ false → previous_from before xs x ≢ Some x
 before_itself before x [] apart e = absurd (cc)
 before_itself before x (y ∷ ys) apart e =
     elim (eqb_tells y x) [

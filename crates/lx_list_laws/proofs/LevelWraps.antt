@@ -57,7 +57,7 @@ module _ (f g : Forest) (p x item list : ℕ) (s : HasSunk f g p x item list) wh
       ∙ ap (cond (eqb q list) (Some item)) (beside-parent f p x item s.may q)
 
   -- the item has the list, p has the item before x, and any other node has what it had
-  nested_children : (q : ℕ) → children_of (prepared p x item list f) q
+  pub nested_children : (q : ℕ) → children_of (prepared p x item list f) q
       ≡ cond (eqb q item) (list ∷ []) (cond (eqb q p) (names_with (Some x) (item ∷ []) (children_of f q)) (children_of f q))
   nested_children q =
       children_of-put_in item None list (beside p x item f) q (beside-order f p x item s.may) s.can
@@ -69,16 +69,16 @@ module _ (f g : Forest) (p x item list : ℕ) (s : HasSunk f g p x item list) wh
     pub now_order : IsForest u
     now_order = IsForest-moved (prepared p x item list f) u to x before nested_order m
 
-    now_label : (q : ℕ) → label_of u q ≡ label_of f q
+    pub now_label : (q : ℕ) → label_of u q ≡ label_of f q
     now_label q = label_of-moved (prepared p x item list f) u to x before nested_order m q ∙ nested_label q
 
     pub now_kind : (q : ℕ) → kind_of u q ≡ kind_of f q
     now_kind q = ap (option_map (λ (l : Label). l.kind)) (now_label q)
 
-    now_parent : (q : ℕ) → parent_of u q ≡ cond (eqb q x) (Some to) (cond (eqb q list) (Some item) (cond (eqb q item) (Some p) (parent_of f q)))
+    pub now_parent : (q : ℕ) → parent_of u q ≡ cond (eqb q x) (Some to) (cond (eqb q list) (Some item) (cond (eqb q item) (Some p) (parent_of f q)))
     now_parent q = parent_of-moved (prepared p x item list f) u to x before nested_order m q ∙ ap (cond (eqb q x) (Some to)) (nested_parent q)
 
-    now_children : (q : ℕ) → children_of u q ≡ cond (eqb q to) (names_with before (x ∷ []) (names_without x (children_of (prepared p x item list f) q)))
+    pub now_children : (q : ℕ) → children_of u q ≡ cond (eqb q to) (names_with before (x ∷ []) (names_without x (children_of (prepared p x item list f) q)))
         (names_without x (children_of (prepared p x item list f) q))
     now_children = children_of-moved (prepared p x item list f) u to x before nested_order m
 

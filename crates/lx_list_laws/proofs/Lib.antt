@@ -15,3 +15,12 @@ pub mod ReadOrder
 pub mod ReadOver
 pub mod ReadSaid
 pub mod ReadSound
+pub mod StayAhead
+pub mod StayBetween
+pub mod StayDissolved
+pub mod StayIndented
+pub mod StayKeys
+pub mod StayLines
+pub mod StayTold
+pub mod StayUnder
+pub mod StayWrapped

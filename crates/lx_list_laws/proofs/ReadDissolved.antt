@@ -42,15 +42,15 @@ use Rattle.lx_list_laws.proofs.ReadSaid.{inlines, said, inline_below, MaySay, Ar
 use Rattle.lx_list_laws.proofs.ReadLines.{inline_no_block, list_tells, said-lines, is_listed, listed_below, listed_silent, none_in_list, none-any, is_block_at, list_or_item, lines_read}
 
 -- the lines of a list
-abbrev lines_of : Forest → ℕ → List ℕ
+abbrev pub lines_of : Forest → ℕ → List ℕ
 lines_of f list = filter (is_line f) (keys_within f list)
 
 -- a line of a list is in its tree
-among_lines : (f : Forest) (list q : ℕ) → is_among q (lines_of f list) ≡ (is_within f list q && is_line f q)
+pub among_lines : (f : Forest) (list q : ℕ) → is_among q (lines_of f list) ≡ (is_within f list q && is_line f q)
 among_lines f list q = is_among-filter (is_line f) q (keys_within f list) ∙ ap (λ b. b && is_line f q) (is_among-preorder key_of q (alone list f))
 
 -- what is in a tree is in it
-within_below : (f : Forest) (list c b : ℕ) → IsForest f → parent_of f c ≡ Some b → is_within f list b ≡ true → is_within f list c ≡ true
+pub within_below : (f : Forest) (list c b : ℕ) → IsForest f → parent_of f c ≡ Some b → is_within f list b ≡ true → is_within f list c ≡ true
 within_below f list c b h up inside =
     elim (eqb_tells c list) [
       | inl own ↦ absurd (grind (arith, inside, own.1, is_within-parent f c b h up))
@@ -58,12 +58,11 @@ within_below f list c b h up inside =
     ]
 
 -- A list below p whose lines have become paragraphs before it.
-record IsEmptied (f g : Forest) (p list : ℕ) : Type 0 where
-  held : IsHeld may_hold f
-  first : InlinesFirst f
-  up : parent_of f list ≡ Some p
-  is_list : is_at is_list f list ≡ true
-  all : AreSaid f g p list (lines_of f list)
+pub record IsEmptied (f g : Forest) (p list : ℕ) : Type 0 where
+  pub held : IsHeld may_hold f
+  pub up : parent_of f list ≡ Some p
+  pub is_list : is_at is_list f list ≡ true
+  pub all : AreSaid f g p list (lines_of f list)
 
 module _ (f g : Forest) (p list : ℕ) (m : IsEmptied f g p list) where
   order : IsForest f
@@ -72,18 +71,18 @@ module _ (f g : Forest) (p list : ℕ) (m : IsEmptied f g p list) where
   p_outside : is_within f list p ≡ false
   p_outside = is_within-parent f list p order m.up
 
-  not_p : (q : ℕ) → is_within f list q ≡ true → eqb q p ≡ false
+  pub not_p : (q : ℕ) → is_within f list q ≡ true → eqb q p ≡ false
   not_p q inside = grind (arith, inside, p_outside, eqb_tells q p)
 
-  list_listed : is_at is_listed f list ≡ true
+  pub list_listed : is_at is_listed f list ≡ true
   list_listed = so_at is_list is_listed true (λ kind e. grind (arith, e)) f list m.is_list
 
   -- no child that is left is inline
-  record LeftBelow (b c : ℕ) : Type 0 where
-    child : parent_of f c ≡ Some b
-    other : is_at is_inline f c ≡ false
+  pub record LeftBelow (b c : ℕ) : Type 0 where
+    pub child : parent_of f c ≡ Some b
+    pub other : is_at is_inline f c ≡ false
 
-  left_below : (b c : ℕ) → is_within f list b ≡ true → is_at is_listed f b ≡ true → is_among c (children_of g b) ≡ true → LeftBelow b c
+  pub left_below : (b c : ℕ) → is_within f list b ≡ true → is_at is_listed f b ≡ true → is_among c (children_of g b) ≡ true → LeftBelow b c
   left_below b c inside here among = elim (cases_Bool (is_line f b)) [
     | inl line ↦
         let there : is_among b (lines_of f list) ≡ true = among_lines f list b ∙ ap₂ (λ x y. x && y) inside line in
@@ -113,14 +112,14 @@ module _ (f g : Forest) (p list : ℕ) (m : IsEmptied f g p list) where
       let l = left_below q c within listed among in
       each c l.child (within_below f list c q order l.child within) (listed_below f c q m.held l.child listed l.other)))) b inside here
 
-  list_inside : is_within f list list ≡ true
+  pub list_inside : is_within f list list ≡ true
   list_inside = is_within-self f list ∙ has-child f list p m.up
 
   emptied_list : read_below g list ≡ []
   emptied_list = empty_below list list_inside list_listed
 
-  list_said : said f (lines_of f list) ≡ read_below f list
-  list_said = said-lines f (keys_within f list) ∙ sym (lines_read f order m.held m.first list list_listed)
+  list_said : InlinesFirst f → said f (lines_of f list) ≡ read_below f list
+  list_said first = said-lines f (keys_within f list) ∙ sym (lines_read f order m.held first list list_listed)
 
   -- elsewhere the same is read
   abbrev spared : ℕ → Bool
@@ -129,8 +128,8 @@ module _ (f g : Forest) (p list : ℕ) (m : IsEmptied f g p list) where
   beside_spared : (q b : ℕ) → parent_of f q ≡ Some b → q ≢ list → is_within f list b ≡ false → spared q ≡ false
   beside_spared q b up other outside = grind (arith, is_within-up f list q b order up other, outside, has-child f q b up)
 
-  emptied_level : (b : ℕ) → spared b ≡ false → IsKnown f g spared b → reads_of g (children_of g b) ≡ reads_of f (children_of f b)
-  emptied_level b clear k =
+  emptied_level : InlinesFirst f → (b : ℕ) → spared b ≡ false → IsKnown f g spared b → reads_of g (children_of g b) ≡ reads_of f (children_of f b)
+  emptied_level first b clear k =
       let outside : is_within f list b ≡ false = grind (arith, clear) in
       elim (eqb_tells b p) [
         | inl own ↦
@@ -138,7 +137,7 @@ module _ (f g : Forest) (p list : ℕ) (m : IsEmptied f g p list) where
             ap (children_of g) own.1 ∙ m.all.here ∙ ap (λ q. names_with (Some list) m.all.paragraphs (children_of f q)) (sym own.1) in
             let among : is_among list (children_of f b) ≡ true = ap (λ q. is_among list (children_of f q)) own.1 ∙ child_of f p list order m.up in
             let same : reads_of g m.all.paragraphs ++ read_below g list ≡ read_below f list =
-            ap₂ (λ x y. x ++ y) m.all.says emptied_list ∙ append-nil (said f (lines_of f list)) ∙ list_said in
+            ap₂ (λ x y. x ++ y) m.all.says emptied_list ∙ append-nil (said f (lines_of f list)) ∙ list_said first in
             ap (reads_of g) here
             ∙ reads-instead f g list m.all.paragraphs (children_of f b) (NoRepeats-children_of f b order) among same
             (λ q there other. let up = parent_here f b q order there in k.child q up (beside_spared q b up other outside))
@@ -153,21 +152,21 @@ module _ (f g : Forest) (p list : ℕ) (m : IsEmptied f g p list) where
   root_other : 0 ≢ list
   root_other same = absurd (grind (arith, m.up, same, parent_of-root f order))
 
-  emptied_read : read_below g 0 ≡ read_below f 0
-  emptied_read =
-      reads_told f g spared m.all.told emptied_level 0
+  emptied_read : InlinesFirst f → read_below g 0 ≡ read_below f 0
+  emptied_read first =
+      reads_told f g spared m.all.told (emptied_level first) 0
       (ap₂ (λ x y. x || not y) (is_within-top f list 0 order (parent_of-root f order) root_other) (has-root f order))
 
   -- inline children come first in each item still
-  emptied_first : is_at is_item f p ≡ false → InlinesFirst g
-  emptied_first none = record {
+  emptied_first : InlinesFirst f → is_at is_item f p ≡ false → InlinesFirst g
+  emptied_first first none = record {
     each = λ x item.
         let was : is_at is_item f x ≡ true = sym (m.all.item x) ∙ item in
         let other : eqb x p ≡ false = grind (arith, was, none, eqb_tells x p) in
         first-same (is_at is_inline g) (is_at is_inline f) (children_of g x) (λ q among. m.all.inline q)
         ∙ elim (cases_Bool (is_among x (lines_of f list))) [
           | inl there ↦ ap (stand_first (is_at is_inline f)) (m.all.left x there) ∙ first-others (is_at is_inline f) (children_of f x)
-          | inr away ↦ ap (stand_first (is_at is_inline f)) (m.all.others x (there_at is_item f x was) other away) ∙ m.first.each x was
+          | inr away ↦ ap (stand_first (is_at is_inline f)) (m.all.others x (there_at is_item f x was) other away) ∙ first.each x was
         ];
   }
 
@@ -183,7 +182,7 @@ pub first_same : (w v : Working) → IsSound w → InlinesFirst w.forest → ◌
 first_same w v s first e = subst (KeepsFirst w) (was_same w v e) (record { stays = stays_selected w w s refl refl; first = first; read = refl })
 
 -- a list that is below nothing can't be removed, nor can anything come before it
-top_stays : (list : ℕ) (lines : List ℕ) (w u v : Working) → IsSound w → in_turn (paragraph_made list) lines w ≡ Ok u → remove_step list u ≡ Ok v
+pub top_stays : (list : ℕ) (lines : List ℕ) (w u v : Working) → IsSound w → in_turn (paragraph_made list) lines w ≡ Ok u → remove_step list u ≡ Ok v
     → (p : ℕ) × (parent_of w.forest list ≡ Some p)
 unfolding in_turn paragraph_made remove_step
 top_stays list [] w u v s e f = elim (cases_option (parent_of w.forest list)) [
@@ -206,7 +205,7 @@ top_stays list (line ∷ lines) w u v s e f =
 pub block_apart : (f : Forest) (k : ℕ) → is_at is_text_block f k ≡ true → is_at is_inline f k ≡ false
 block_apart f k is = grind (arith, is, so_at is_inline is_text_block false inline_no_block f k)
 
-may_say : (f : Forest) (p list : ℕ) → IsForest f → IsHeld may_hold f → parent_of f list ≡ Some p → is_at is_list f list ≡ true
+pub may_say : (f : Forest) (p list : ℕ) → IsForest f → IsHeld may_hold f → parent_of f list ≡ Some p → is_at is_list f list ≡ true
     → MaySay f p list (lines_of f list)
 may_say f p list h held up is =
     let inside : (q : ℕ) → is_among q (lines_of f list) ≡ true → is_within f list q ≡ true = λ q among. grind (arith, among_lines f list q, among) in
@@ -232,15 +231,15 @@ keeps_dissolved list w v s inlines outer e =
     let p : ℕ = above.0 in
     let no_item : is_at is_item f p ≡ false = grind (arith, outer, ap (is_in_item f) above.1) in
     let said = are_said p list (lines_of f list) w a.0 s (may_say f p list h s.held above.1 is) a.1 in
-    let m : IsEmptied f a.0.forest p list = record { held = s.held; first = inlines; up = above.1; is_list = is; all = said.0 } in
+    let m : IsEmptied f a.0.forest p list = record { held = s.held; up = above.1; is_list = is; all = said.0 } in
     let gone = was_removed list a.0 v said.1.sound.ready.in_order (emptied_list f a.0.forest p list m) a.2 in
     record {
       stays = stays_then w a.0 v said.1 (remove_path sound_path list a.0 v said.1.sound a.2);
-      first = gone.first (emptied_first f a.0.forest p list m no_item);
-      read = gone.read 0 ∙ emptied_read f a.0.forest p list m;
+      first = gone.first (emptied_first f a.0.forest p list m inlines no_item);
+      read = gone.read 0 ∙ emptied_read f a.0.forest p list m inlines;
     }
 
-found_passes : (test : ℕ → Bool) (ks : List ℕ) (k : ℕ) → find test ks ≡ Some k → test k ≡ true
+pub found_passes : (test : ℕ → Bool) (ks : List ℕ) (k : ℕ) → find test ks ≡ Some k → test k ≡ true
 found_passes test [] k e = absurd (cc)
 found_passes test (x ∷ xs) k e = elim (cases_Bool (test x)) [
   | inl here ↦ let same : Some x ≡ Some k = grind (arith, e, here) in grind (arith, here, same)

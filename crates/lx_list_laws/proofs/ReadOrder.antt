@@ -13,7 +13,7 @@ pub filter-same : (s t : ℕ → Bool) (xs : List ℕ) → ((q : ℕ) → is_amo
 filter-same s t [] each = refl
 filter-same s t (x ∷ xs) each = rw (each x (grind (arith, eqb_tells x x)), filter-same s t xs (λ q among. each q (grind (arith, among)))) refl
 
-any-same : (s t : ℕ → Bool) (xs : List ℕ) → ((q : ℕ) → is_among q xs ≡ true → s q ≡ t q) → list_any s xs ≡ list_any t xs
+pub any-same : (s t : ℕ → Bool) (xs : List ℕ) → ((q : ℕ) → is_among q xs ≡ true → s q ≡ t q) → list_any s xs ≡ list_any t xs
 any-same s t [] each = refl
 any-same s t (x ∷ xs) each = rw (each x (grind (arith, eqb_tells x x)), any-same s t xs (λ q among. each q (grind (arith, among)))) refl
 

@@ -4,7 +4,7 @@ use Rattle.std.specs.Prelude.{is_some}
 use Rattle.std.specs.List.{filter}
 use Rattle.std.proofs.lemmas.Bool.Decides.{eqb_tells}
 use Rattle.lx_trees.specs.Siblings.{is_among, NoRepeats, names_with}
-use Rattle.lx_node.specs.Kinds.{may_hold, is_inline, is_item, is_text}
+use Rattle.lx_node.specs.Kinds.{may_hold, is_inline, is_item, is_list, is_text}
 use Rattle.lx_node.specs.Plain.{plain_element}
 use Rattle.lx_node.specs.declared.kind.Kind.{Kind}
 use Rattle.lx_node.specs.declared.kind.Kind.TheVariants as kinds
@@ -89,26 +89,28 @@ inline_read f g t held same q is =
 
 -- ---- one line
 
-paragraph_kind : (is_text Paragraph ≡ false) × (is_inline Paragraph ≡ false) × (is_item Paragraph ≡ false)
-unfolding is_text is_inline is_item
-paragraph_kind = (refl, refl, refl)
+pub paragraph_kind : (is_text Paragraph ≡ false) × (is_inline Paragraph ≡ false) × (is_item Paragraph ≡ false) × (is_list Paragraph ≡ false)
+unfolding is_text is_inline is_item is_list
+paragraph_kind = (refl, refl, refl, refl)
 
 -- a paragraph n came before the list with the inline children of a line
-record IsSaid (f g : Forest) (p list line n : ℕ) : Type 0 where
-  told : AreTold f g
-  free : has n f ≡ false
-  inline : (q : ℕ) → is_at is_inline g q ≡ is_at is_inline f q
-  item : (q : ℕ) → is_at is_item g q ≡ is_at is_item f q
-  here : children_of g p ≡ names_with (Some list) (n ∷ []) (children_of f p)
-  filled : children_of g n ≡ inlines f line
-  left : children_of g line ≡ rest_of f line
-  others : (q : ℕ) → eqb q p ≡ false → eqb q n ≡ false → eqb q line ≡ false → children_of g q ≡ children_of f q
-  up : parent_of g list ≡ parent_of f list
+pub record IsSaid (f g : Forest) (p list line n : ℕ) : Type 0 where
+  pub told : AreTold f g
+  pub free : has n f ≡ false
+  pub inline : (q : ℕ) → is_at is_inline g q ≡ is_at is_inline f q
+  pub item : (q : ℕ) → is_at is_item g q ≡ is_at is_item f q
+  pub lists : (q : ℕ) → is_at is_list g q ≡ is_at is_list f q
+  pub here : children_of g p ≡ names_with (Some list) (n ∷ []) (children_of f p)
+  pub filled : children_of g n ≡ inlines f line
+  pub left : children_of g line ≡ rest_of f line
+  pub others : (q : ℕ) → eqb q p ≡ false → eqb q n ≡ false → eqb q line ≡ false → children_of g q ≡ children_of f q
+  pub up : parent_of g list ≡ parent_of f list
 
 -- a new paragraph among the children of p took what was in the line
 module _ (f u g : Forest) (p list line n : ℕ) (c : CameNew f u n p (Some list)) (here : has line f ≡ true) (apart : eqb line p ≡ false)
     (up : parent_of f list ≡ Some p)
     (inline : (q : ℕ) → is_at is_inline u q ≡ is_at is_inline f q) (item : (q : ℕ) → is_at is_item u q ≡ is_at is_item f q)
+    (lists : (q : ℕ) → is_at is_list u q ≡ is_at is_list f q)
     (o : WentOver u g line n (inlines u line)) where
   kept : (q : ℕ) → eqb q p ≡ false → children_of u q ≡ children_of f q
   kept = came_elsewhere f u n p (Some list) c
@@ -133,6 +135,7 @@ module _ (f u g : Forest) (p list line n : ℕ) (c : CameNew f u n p (Some list)
         free = c.free;
         inline = λ q. kinds_went is_inline u g line n (inlines u line) o q ∙ inline q;
         item = λ q. kinds_went is_item u g line n (inlines u line) o q ∙ item q;
+        lists = λ q. kinds_went is_list u g line n (inlines u line) o q ∙ lists q;
         here = o.others p (λ e. absurd (grind (arith, e, apart, eqb_tells line p))) (λ e. absurd (grind (arith, e, c.other, eqb_tells n p)))
             ∙ came_here f u n p (Some list) c;
         filled = o.there ∙ ap (λ ks. ks ++ inlines u line) (came_empty f u n p (Some list) c) ∙ ap (filter (is_at is_inline u)) (kept line apart)
@@ -158,7 +161,7 @@ sound_paragraph list line w v s e =
     b.2 in
     stays_then w b.0 v put filled
 
-is_said : (p list line : ℕ) (w v : Working) → IsSound w → parent_of w.forest list ≡ Some p → has line w.forest ≡ true → eqb line p ≡ false
+pub is_said : (p list line : ℕ) (w v : Working) → IsSound w → parent_of w.forest list ≡ Some p → has line w.forest ≡ true → eqb line p ≡ false
     → paragraph_made list line w ≡ Ok v
     → IsSaid w.forest v.forest p list line w.next_key
 unfolding paragraph_made emptied_into
@@ -172,13 +175,14 @@ is_said p list line w v s up there apart e =
     let u : Forest = b.0.forest in
     let inline : (q : ℕ) → is_at is_inline u q ≡ is_at is_inline f q = λ q. kinds_born is_inline w b.0 Paragraph p (Some list) born paragraph_kind.1 q in
     let item : (q : ℕ) → is_at is_item u q ≡ is_at is_item f q = λ q. kinds_born is_item w b.0 Paragraph p (Some list) born paragraph_kind.2 q in
+    let lists : (q : ℕ) → is_at is_list u q ≡ is_at is_list f q = λ q. kinds_born is_list w b.0 Paragraph p (Some list) born paragraph_kind.3 q in
     let two : line ≢ n = λ same. absurd (grind (arith, same, there, c.free)) in
     let h : IsForest u = c.told.behind in
     let o : WentOver u v.forest line n (inlines u line) =
     went_over line n (inlines u line) (pointed (moved_to line (element_point n 0)) b.0) v h two
     (NoRepeats-filter (is_at is_inline u) (children_of u line) (NoRepeats-children_of u line h))
     (λ q among. parent_here u line q h (grind (arith, is_among-filter (is_at is_inline u) q (children_of u line), among))) b.2 in
-    said_now f u v.forest p list line n c there apart up inline item o
+    said_now f u v.forest p list line n c there apart up inline item lists o
 
 -- ---- one line after another
 
@@ -197,6 +201,7 @@ pub record AreSaid (f g : Forest) (p list : ℕ) (ls : List ℕ) : Type 0 where
   pub paragraphs : List ℕ
   pub inline : (q : ℕ) → is_at is_inline g q ≡ is_at is_inline f q
   pub item : (q : ℕ) → is_at is_item g q ≡ is_at is_item f q
+  pub lists : (q : ℕ) → is_at is_list g q ≡ is_at is_list f q
   pub here : children_of g p ≡ names_with (Some list) paragraphs (children_of f p)
   pub says : reads_of g paragraphs ≡ said f ls
   pub left : (q : ℕ) → is_among q ls ≡ true → children_of g q ≡ rest_of f q
@@ -211,7 +216,7 @@ said-same f g (l ∷ ls) same each =
     (ap (reads_of g) (same l (grind (arith, eqb_tells l l))) ∙ reads-same f g (inlines f l) (λ q among. each q (among_inlines f l q among)))
     (said-same f g ls (λ q among. same q (grind (arith, among))) each)
 
-has_still : (f g : Forest) → KindsStay f g → (q : ℕ) → has q f ≡ true → has q g ≡ true
+pub has_still : (f g : Forest) → KindsStay f g → (q : ℕ) → has q f ≡ true → has q g ≡ true
 has_still f g stay q there =
     let kind = kind_known f q there in
     sym (is_some-kind_of g q) ∙ ap is_some (stay.each q kind.0 kind.1)
@@ -275,6 +280,7 @@ module _ (f x g : Forest) (p list line n : ℕ) (ls : List ℕ) (held : IsHeld m
         paragraphs = n ∷ rest.paragraphs;
         inline = λ q. rest.inline q ∙ one.inline q;
         item = λ q. rest.item q ∙ one.item q;
+        lists = λ q. rest.lists q ∙ one.lists q;
         here = rest.here ∙ ap (names_with (Some list) rest.paragraphs) one.here
             ∙ names_with-twice list n rest.paragraphs (children_of f p) (grind (arith, one.free, has-child f list p m.up, eqb_tells n list));
         says = ap₂ (λ a b. a ++ b) first (rest.says ∙ said-same f x ls same_inlines inline_first);
@@ -300,6 +306,7 @@ are_said p list [] w v s m e =
         paragraphs = [];
         inline = λ q. refl;
         item = λ q. refl;
+        lists = λ q. refl;
         here = sym (names_with-none list (children_of w.forest p));
         says = refl;
         left = λ q among. absurd (cc);

@@ -4,6 +4,8 @@
 
 mod levels;
 mod making;
+mod staying;
 
 pub use levels::levels_come_and_go;
 pub use making::lists_come_and_go;
+pub use staying::selections_stay;
