@@ -1,3 +1,7 @@
+pub mod BlockBack
+pub mod BlockMade
+pub mod BlockSelected
+pub mod BlockTold
 pub mod LevelAlone
 pub mod LevelBeside
 pub mod LevelCommands

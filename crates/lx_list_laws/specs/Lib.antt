@@ -1,3 +1,4 @@
 pub mod Levels
 pub mod Reading
+pub mod Returning
 pub mod Staying

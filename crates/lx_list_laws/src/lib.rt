@@ -4,8 +4,10 @@
 
 mod levels;
 mod making;
+mod returning;
 mod staying;
 
 pub use levels::levels_come_and_go;
 pub use making::lists_come_and_go;
+pub use returning::blocks_come_back;
 pub use staying::selections_stay;
