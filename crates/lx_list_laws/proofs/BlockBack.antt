@@ -1,24 +1,23 @@
 -- The list of one item that a block became is removed: a paragraph has the item's children, in the block's place.
-use Rattle.std.proofs.Common.{◌≡◌, ◌≢◌, ◌∙◌, ℕ, Bool, true, false, cond, eqb, ◌&&◌, not, List, [], ◌∷◌, ◌++◌, Option, None, Some, Result, Ok, refl, sym, ap, ap₂, subst, arith, inl, inr}
+use Rattle.std.proofs.Common.{◌≡◌, ◌≢◌, ◌∙◌, ℕ, Bool, true, false, cond, eqb, ◌&&◌, not, List, [], ◌∷◌, Some, Ok, refl, sym, ap, ap₂, arith, inl, inr}
 use Rattle.std.specs.Prelude.{is_some, option_map, find}
 use Rattle.std.specs.List.{filter, list_all}
 use Rattle.std.proofs.lemmas.Bool.{cases_Bool}
 use Rattle.std.proofs.lemmas.Bool.Decides.{eqb_tells}
-use Rattle.lx_trees.specs.Siblings.{is_among, NoRepeats, names_without, names_with}
+use Rattle.lx_trees.specs.Siblings.{is_among, NoRepeats, names_without}
 use Rattle.lx_trees.proofs.Siblings.{is_among-names_with, names_without-absent_list}
 use Rattle.lx_node.specs.Kinds.{may_hold, is_inline, is_item, is_list, is_text_block}
 use Rattle.lx_node.specs.Plain.{plain_element}
 use Rattle.lx_node.specs.declared.kind.Kind.{Kind}
 use Rattle.lx_node.specs.declared.kind.Kind.TheVariants.{Paragraph, Item, List as ListKind}
 use Rattle.lx_node.specs.declared.kind.ListType.{ListType}
-use Rattle.lx_node.specs.declared.cause.Cause.{Cause}
 use Rattle.lx_node.specs.declared.cause.Point.{Point}
 use Rattle.lx_select.specs.declared.selection.Selection.{Selection}
 use Rattle.lx_select.specs.Selection.{each_point, has_point_on}
 use Rattle.lx_select.specs.Rules.{moved_to}
 use Rattle.lx_select.proofs.Apart.{moved_to-apart}
 use Rattle.lx_forest.specs.Forest.{Forest, Label}
-use Rattle.lx_forest.specs.Lookups.{has, kind_of, label_of, parent_of, children_of, ancestors, is_within, is_attached, IsForest, IsHeld}
+use Rattle.lx_forest.specs.Lookups.{has, label_of, parent_of, children_of, is_within, is_attached, IsForest, IsHeld}
 use Rattle.lx_forest.specs.Edits.{take_out}
 use Rattle.lx_forest.proofs.Lookups.{NoRepeats-children_of, label_of-take_out, children_of-take_out, has-child, has-parent_of}
 use Rattle.lx_forest.proofs.Walks.{ancestors-step}
@@ -37,7 +36,6 @@ use Rattle.lx_edit.proofs.Paths.{put_before_path}
 use Rattle.lx_edit_laws.specs.Reading.{in_place_of}
 use Rattle.lx_edit_laws.proofs.WrapLists.{in_its_place, filter-kept}
 use Rattle.lx_edit_laws.proofs.WrapSteps.{was_same}
-use Rattle.lx_edit_laws.proofs.WrapTrees.{not_child}
 use Rattle.lx_edit_laws.proofs.WrapTurns.{removed_alone}
 use Rattle.lx_blocks.specs.Blocks.{passes, is_at, is_line}
 use Rattle.lx_list.specs.Dissolving.{emptied_into, paragraph_made, dissolved, dissolved_if, is_in_item, is_outermost, outermost_above, dissolved_around}
@@ -50,8 +48,8 @@ use Rattle.lx_list_laws.proofs.LevelSteps.{was_made}
 use Rattle.lx_list_laws.proofs.ReadDissolved.{lines_of, among_lines, within_below, may_say}
 use Rattle.lx_list_laws.proofs.ReadEdits.{so_at, parent_made}
 use Rattle.lx_list_laws.proofs.ReadLines.{inline_no_block, list_no_line}
-use Rattle.lx_list_laws.proofs.ReadSaid.{inlines, IsSaid, is_said, sound_paragraph}
-use Rattle.lx_list_laws.proofs.ReadSound.{StaysSound, sound_path, is_free}
+use Rattle.lx_list_laws.proofs.ReadSaid.{inlines, IsSaid, is_said}
+use Rattle.lx_list_laws.proofs.ReadSound.{sound_path}
 use Rattle.lx_list_laws.proofs.StayBetween.{below}
 
 -- ---- lists of names
@@ -155,9 +153,9 @@ module _ (f g : Forest) (type : ListType) (p b list item : ℕ) (s : IsListed f 
   one_line = only_one item (lines_of g list) (may_say g p list order s.still m.list_up list_is).once (λ q. among_lines g list q ∙ elim (eqb_tells q item) [
     | inl same ↦ rw (same.0, same.1) (ap₂ (λ x y. x && y) within_list (line g item item_block))
     | inr other ↦ elim (cases_Bool (is_within g list q)) [
-        | inl inside ↦ rw other.0 (grind (arith, not_line q other.1 inside))
-        | inr out ↦ rw (other.0, out) refl
-      ]
+      | inl inside ↦ rw other.0 (grind (arith, not_line q other.1 inside))
+      | inr out ↦ rw (other.0, out) refl
+    ]
   ])
 
   all_inline : inlines g item ≡ children_of f b
@@ -166,7 +164,8 @@ module _ (f g : Forest) (type : ListType) (p b list item : ℕ) (s : IsListed f 
 
   -- ---- the paragraph comes, and the list goes
 
-  module _ (x u : Forest) (n : ℕ) (a : IsSaid g x p list item n) (label : (q : ℕ) → label_of x q ≡ cond (eqb q n) (Some (record { key = n; kind = Paragraph; fields = plain_element })) (label_of g q))
+  module _ (x u : Forest) (n : ℕ) (a : IsSaid g x p list item n)
+      (label : (q : ℕ) → label_of x q ≡ cond (eqb q n) (Some (record { key = n; kind = Paragraph; fields = plain_element })) (label_of g q))
       (is : u ≡ take_out list x) where
     x_order : IsForest x
     x_order = a.told.behind

@@ -1,11 +1,11 @@
 -- A block that becomes the item of a new list: where its children are then.
-use Rattle.std.proofs.Common.{◌≡◌, ◌≢◌, ◌∙◌, ℕ, Bool, true, false, cond, eqb, List, [], ◌∷◌, ◌++◌, Option, None, Some, Result, Ok, refl, sym, ap, ap₂, subst, arith, inl, inr}
+use Rattle.std.proofs.Common.{◌≡◌, ◌≢◌, ◌∙◌, ℕ, true, false, cond, eqb, List, [], ◌∷◌, ◌++◌, Option, None, Some, Result, Ok, refl, sym, ap, ap₂, subst, arith, inl, inr}
 use Rattle.std.specs.Prelude.{option_map, slice_get}
 use Rattle.std.proofs.lemmas.Bool.{cases_Bool}
 use Rattle.std.proofs.lemmas.Bool.Decides.{eqb_tells}
 use Rattle.lx_trees.specs.Siblings.{is_among, NoRepeats, names_without, names_with}
 use Rattle.lx_trees.proofs.Siblings.{names_without-absent_list}
-use Rattle.lx_node.specs.Kinds.{may_hold, is_inline, is_item, is_list, is_text, is_text_block}
+use Rattle.lx_node.specs.Kinds.{may_hold, is_item, is_list, is_text, is_text_block}
 use Rattle.lx_node.specs.declared.kind.Kind.{Kind}
 use Rattle.lx_node.specs.declared.kind.Kind.TheVariants as kinds
 use Rattle.lx_node.specs.declared.kind.Kind.TheVariants.{Item, List as ListKind}
@@ -18,7 +18,7 @@ use Rattle.lx_select.specs.declared.selection.Selection.TheVariants.{Nothing, Ra
 use Rattle.lx_select.specs.Selection.{has_point_on, ends_of, carried}
 use Rattle.lx_select.specs.Rules.{carry_moves}
 use Rattle.lx_forest.specs.Forest.{Forest, Label}
-use Rattle.lx_forest.specs.Lookups.{has, kind_of, label_of, parent_of, children_of, size_of, previous_of, is_within, is_attached, IsForest, IsHeld}
+use Rattle.lx_forest.specs.Lookups.{has, kind_of, label_of, parent_of, children_of, size_of, previous_of, IsForest, IsHeld}
 use Rattle.lx_forest.specs.Edits.{take_out}
 use Rattle.lx_forest.proofs.Lookups.{NoRepeats-children_of, parent_of-self, label_of-with_new, label_of-put_in, label_of-take_out, parent_of-take_out, children_of-take_out, has-child, has-parent_of}
 use Rattle.lx_forest.proofs.Order.{IsForest-take_out}
@@ -36,7 +36,7 @@ use Rattle.lx_edit_laws.proofs.WrapLists.{in_its_place}
 use Rattle.lx_edit_laws.proofs.WrapSteps.{was_put, was_put_before, before_below, was_moved_to_end, was_same}
 use Rattle.lx_edit_laws.proofs.WrapTold.{WentAll, went_all}
 use Rattle.lx_edit_laws.proofs.WrapTrees.{not_child, IsForest-moved, label_of-moved, parent_of-moved}
-use Rattle.lx_edit_laws.proofs.WrapTurns.{WentOver, left_alone, removed_alone}
+use Rattle.lx_edit_laws.proofs.WrapTurns.{left_alone, removed_alone}
 use Rattle.lx_blocks.specs.Blocks.{passes, is_at}
 use Rattle.lx_caret.proofs.Fit.{each_still}
 use Rattle.lx_list.specs.Making.{list_fields, item_fields, unchecked}
@@ -45,11 +45,11 @@ use Rattle.lx_list_laws.specs.Reading.{IsSound}
 use Rattle.lx_list_laws.specs.Returning.{BecomesList}
 use Rattle.lx_list_laws.proofs.LevelPoints.{put_stays, before_stays, to_end_stays, removed_stays}
 use Rattle.lx_list_laws.proofs.LevelSteps.{was_made}
-use Rattle.lx_list_laws.proofs.ReadEdits.{IsBorn, parent_made, born_at, born_last}
+use Rattle.lx_list_laws.proofs.ReadEdits.{parent_made, born_at, born_last}
 use Rattle.lx_list_laws.proofs.ReadForests.{CameNew, came_here, came_elsewhere, came_empty}
 use Rattle.lx_list_laws.proofs.ReadLines.{inline_no_block, list_tells}
 use Rattle.lx_list_laws.proofs.ReadSaid.{both_kinds, has_still}
-use Rattle.lx_list_laws.proofs.ReadSound.{StaysSound, stays_then, sound_path, new_forest, is_free}
+use Rattle.lx_list_laws.proofs.ReadSound.{stays_then, sound_path, new_forest, is_free}
 use Rattle.lx_list_laws.proofs.StayBetween.{IsGiven, given}
 use Rattle.lx_list_laws.proofs.StayKeys.{EachKey, each_same, same_new, same_take, same_put, same_before, same_each, keys_brought}
 use Rattle.lx_list_laws.proofs.StayUnder.{Sends, keys_sent}
@@ -215,7 +215,8 @@ each_stays to from (k ∷ ks) s w v h once up e off off_to is =
     to_end_stays to k from w a.0 a.1 (up k (grind (arith, eqb_tells k k))) (ap (has_point_on from) is ∙ off) (ap (has_point_on to) is ∙ off_to) ∙ is in
     each_stays to from ks s a.0 v (IsForest-moved w.forest a.0.forest to k None h m) once.1 (λ q among.
     let other : eqb q k ≡ false = grind (arith, among, once.0, eqb_tells q k) in
-    parent_of-moved w.forest a.0.forest to k None h m q ∙ ap (λ t. cond t (Some to) (parent_of w.forest q)) other ∙ up q (grind (arith, among))) a.2 off off_to one
+    parent_of-moved w.forest a.0.forest to k None h m q ∙ ap (λ t. cond t (Some to) (parent_of w.forest q)) other ∙ up q (grind (arith, among))) a.2 off
+    off_to one
 
 carried_apart : (k : ℕ) (moved : Point → Point) (s : Selection) → has_point_on k s ≡ false → carried k moved (ends_of s) s ≡ s
 carried_apart k moved (Range a b format) off = grind (arith, off)
@@ -303,6 +304,7 @@ became_by type p b w v s up o =
     let went : IsGiven b item o.two o.three = given b item o.two o.three o.give in
     let label : (q : ℕ) → label_of v.forest q ≡ label_of o.two.forest q =
     λ q. ap (λ x. label_of x q) is ∙ label_of-take_out b o.three.forest q all.over.in_order ∙ all.over.label q in
+    let in_order : IsForest o.next.forest = (sound_path.new Item fields o.one o.next put.sound o.new_item).sound.ready.in_order in
     let was_next : (q : ℕ) → eqb q item ≡ false → label_of o.next.forest q ≡ label_of o.one.forest q =
     λ q away. grind (arith, label_new Item fields o.one o.next q put.sound o.new_item, away) in
     let kind : (q : ℕ) → kind_of v.forest q ≡ kind_of o.two.forest q = λ q. ap (option_map (λ (l : Label). l.kind)) (label q) in
@@ -320,7 +322,7 @@ became_by type p b w v s up o =
         list_up = made_up type p b list item f o.one.forest o.two.forest o.three.forest up c d all free v.forest is;
         labels = λ q so.
             let away : eqb q item ≡ false = grind (arith, so, free, eqb_tells q item) in
-            label q ∙ label_put item list (size_of o.next.forest list) o.next o.two q (sound_path.new Item fields o.one o.next put.sound o.new_item).sound.ready.in_order o.put_item
+            label q ∙ label_put item list (size_of o.next.forest list) o.next o.two q in_order o.put_item
             ∙ was_next q away ∙ was q so;
         list_kind = kind list ∙ grind (arith, born_item.kinds list, born.kinds list, d.other, eqb_tells list item, eqb_tells item list, eqb_tells list list);
         item_kind = kind item ∙ grind (arith, born_item.kinds item, eqb_tells item item);
@@ -329,8 +331,8 @@ became_by type p b w v s up o =
       keys = λ P Q goes stays each.
           let before : EachKey P o.two =
           each_same P w o.two
-          (same_put item list (size_of o.next.forest list) o.next o.two o.put_item ∙ same_new Item fields o.one o.next o.new_item ∙ same_before list b o.first o.one o.put_list
-          ∙ same_new (ListKind type) list_fields w o.first o.new_list) each in
+          (same_put item list (size_of o.next.forest list) o.next o.two o.put_item ∙ same_new Item fields o.one o.next o.new_item
+          ∙ same_before list b o.first o.one o.put_list ∙ same_new (ListKind type) list_fields w o.first o.new_list) each in
           let along : EachKey (λ q. Q q × (q ≢ b)) o.three =
           subst (EachKey (λ q. Q q × (q ≢ b))) went.is
           (keys_brought P (λ q. Q q × (q ≢ b)) b item (size_of o.two.forest item) o.two.selection went.mid.selection (λ so. (goes so, λ same. apart (sym same)))
@@ -345,9 +347,9 @@ became_by type p b w v s up o =
           before_stays list b p o.first o.one made.sound.ready.in_order (parent_made (ListKind type) list_fields w o.first b s o.new_list ∙ up) o.put_list
           (ap (has_point_on p) ((was_made (ListKind type) list_fields w o.first o.new_list).selection ∙ is_t) ∙ off_p)
           ∙ (was_made (ListKind type) list_fields w o.first o.new_list).selection ∙ is_t in
+          let before : o.next.selection ≡ t = (was_made Item fields o.one o.next o.new_item).selection ∙ first in
           let second : o.two.selection ≡ t =
-          put_stays item list (size_of o.next.forest list) o.next o.two o.put_item (ap (has_point_on list) ((was_made Item fields o.one o.next o.new_item).selection ∙ first) ∙ off_list)
-          ∙ (was_made Item fields o.one o.next o.new_item).selection ∙ first in
+          put_stays item list (size_of o.next.forest list) o.next o.two o.put_item (ap (has_point_on list) before ∙ off_list) ∙ before in
           let moved : went.mid.selection ≡ t =
           each_stays item b (children_of o.two.forest b) t o.two went.mid d.told.behind (NoRepeats-children_of o.two.forest b d.told.behind)
           (λ q among. parent_here o.two.forest b q d.told.behind among) went.moved off_b off_item second in

@@ -14,20 +14,20 @@ use Rattle.lx_node.specs.declared.cause.Point.{Point}
 use Rattle.lx_select.specs.declared.selection.Selection.{Selection}
 use Rattle.lx_select.specs.declared.selection.Selection.TheVariants.{Range}
 use Rattle.lx_forest.specs.Forest.{Forest}
-use Rattle.lx_forest.specs.Lookups.{parent_of, children_of, size_of, ancestors, is_within, is_attached, from, IsForest, IsHeld}
+use Rattle.lx_forest.specs.Lookups.{parent_of, children_of, ancestors, is_within, is_attached, from, IsForest, IsHeld}
 use Rattle.lx_forest.proofs.Walks.{NoRepeats-preorder_of, ancestors-step}
 use Rattle.lx_draft.specs.Working.{Working}
 use Rattle.lx_draft.specs.Faults.{after}
-use Rattle.lx_draft.proofs.Gaps.{child_of, parent_here}
+use Rattle.lx_draft.proofs.Gaps.{child_of}
 use Rattle.lx_edit.specs.InTurn.{in_turn}
 use Rattle.lx_edit.proofs.Climbed.{first_part}
 use Rattle.lx_edit_laws.proofs.WrapSteps.{was_same}
 use Rattle.lx_blocks.specs.declared.ranges.Ranged.{Ranged}
 use Rattle.lx_blocks.specs.Blocks.{is_at, is_line, block_of, frame_of, same_node}
 use Rattle.lx_blocks.specs.Lines.{from_block, behind_block, up_to, is_line_beside, lines_between, selected_lines}
-use Rattle.lx_blocks.specs.Places.{until, comes_first}
+use Rattle.lx_blocks.specs.Places.{comes_first}
 use Rattle.lx_blocks.specs.Walks.{nodes_before}
-use Rattle.lx_blocks.specs.Ranges.{is_fit, range_in, range_of, start_of, end_of}
+use Rattle.lx_blocks.specs.Ranges.{is_fit, range_in, range_of}
 use Rattle.lx_blocks.proofs.Stretches.{before_and_from, first_from}
 use Rattle.lx_caret.specs.Lying.{EachPoint}
 use Rattle.lx_list.specs.Lines.{if_there, each_line}

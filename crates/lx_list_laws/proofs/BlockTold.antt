@@ -1,5 +1,5 @@
 -- A block that is made a list comes back as a paragraph, by the two commands.
-use Rattle.std.proofs.Common.{◌≡◌, ◌≢◌, ◌∙◌, ℕ, ◌⊎◌, Bool, true, false, cond, eqb, ◌&&◌, List, [], ◌∷◌, Option, None, Some, Result, Ok, refl, sym, ap, subst, arith, inl, inr}
+use Rattle.std.proofs.Common.{◌≡◌, ◌≢◌, ◌∙◌, ℕ, ◌⊎◌, true, false, Some, Ok, refl, ap, arith, inl, inr}
 use Rattle.std.proofs.lemmas.Bool.{cases_Bool}
 use Rattle.std.proofs.lemmas.Bool.Decides.{eqb_tells}
 use Rattle.lx_trees.specs.Siblings.{is_among}
@@ -29,9 +29,9 @@ use Rattle.lx_list.specs.Dissolving.{dissolved_around, remove_list_step}
 use Rattle.lx_list_laws.specs.Levels.{has_points_within}
 use Rattle.lx_list_laws.specs.Reading.{IsSound}
 use Rattle.lx_list_laws.specs.Returning.{MadeAndRemoved, StandsFor, BlocksComeBack}
-use Rattle.lx_list_laws.proofs.BlockBack.{IsListed, IsUndone, item_block, item_up, undone, stands_undone, points_undone}
+use Rattle.lx_list_laws.proofs.BlockBack.{IsListed, IsUndone, item_block, undone, stands_undone, points_undone}
 use Rattle.lx_list_laws.proofs.BlockMade.{IsMade, BecameList, became_list, listed_alone}
-use Rattle.lx_list_laws.proofs.BlockSelected.{IsInlineBlock, ends_in, step_alone}
+use Rattle.lx_list_laws.proofs.BlockSelected.{ends_in, step_alone}
 use Rattle.lx_list_laws.proofs.LevelPoints.{off_outside}
 use Rattle.lx_list_laws.proofs.ReadDissolved.{within_below, block_apart}
 use Rattle.lx_list_laws.proofs.ReadListing.{keeps_listed}
@@ -60,13 +60,13 @@ went_along f g type p b list item h up m own q inside other =
       step x c up_x higher so = elim (eqb_tells c b) [
         | inl same ↦ inr (from_b x (up_x ∙ ap (λ n. Some n) same.1))
         | inr away ↦ elim so [
-            | inl same ↦ absurd (away.1 same)
-            | inr there ↦
-                let not_p : c ≢ p = λ same. absurd (grind (arith, higher, ap (is_within f b) same ∙ is_within-parent f b p h up)) in
-                let holds : children_of g c ≡ children_of f c = m.others c (has-parent_of f x c up_x) not_p away.1 in
-                let among : is_among x (children_of g c) ≡ true = ap (is_among x) holds ∙ child_of f c x h up_x in
-                inr (within_below g item x c m.order (parent_here g c x m.order among) there)
-          ]
+          | inl same ↦ absurd (away.1 same)
+          | inr there ↦
+              let not_p : c ≢ p = λ same. absurd (grind (arith, higher, ap (is_within f b) same ∙ is_within-parent f b p h up)) in
+              let holds : children_of g c ≡ children_of f c = m.others c (has-parent_of f x c up_x) not_p away.1 in
+              let among : is_among x (children_of g c) ≡ true = ap (is_among x) holds ∙ child_of f c x h up_x in
+              inr (within_below g item x c m.order (parent_here g c x m.order among) there)
+        ]
       ]
 
 module _ (type : ListType) (p b : ℕ) (w v u : Working) (m : MadeAndRemoved type p b w v u) where

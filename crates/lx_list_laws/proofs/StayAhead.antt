@@ -1,14 +1,14 @@
 -- Nodes that come after the list with which an item begins: which there are as lists take in items, and what is in them.
-use Rattle.std.proofs.Common.{◌≡◌, ◌≢◌, ◌∙◌, ℕ, ◌⊎◌, Bool, true, false, cond, eqb, not, ◌&&◌, List, [], ◌∷◌, Option, None, Some, refl, sym, ap, ap₂, arith, inl, inr}
+use Rattle.std.proofs.Common.{◌≡◌, ◌≢◌, ◌∙◌, ℕ, ◌⊎◌, Bool, true, false, cond, not, ◌&&◌, List, [], ◌∷◌, Option, None, Some, refl, sym, ap, ap₂, arith, inl, inr}
 use Rattle.std.specs.Prelude.{is_some}
 use Rattle.std.proofs.lemmas.Bool.{cases_Bool}
 use Rattle.std.proofs.lemmas.Bool.Decides.{eqb_tells}
 use Rattle.lx_trees.specs.Siblings.{is_among, is_named, first_of}
 use Rattle.lx_trees.proofs.Siblings.{first_of-among, names_without-absent_list}
-use Rattle.lx_node.specs.Kinds.{may_hold, is_item, is_list}
+use Rattle.lx_node.specs.Kinds.{is_item, is_list}
 use Rattle.lx_node.specs.declared.kind.Kind.{Kind}
 use Rattle.lx_forest.specs.Forest.{Forest}
-use Rattle.lx_forest.specs.Lookups.{has, kind_of, parent_of, children_of, first_child, ancestors, is_within, IsForest, IsHeld}
+use Rattle.lx_forest.specs.Lookups.{has, kind_of, parent_of, children_of, first_child, ancestors, is_within, IsForest}
 use Rattle.lx_forest.specs.Edits.{take_out}
 use Rattle.lx_forest.proofs.Lookups.{kind_of-take_out, parent_of-take_out, children_of-take_out, has-child}
 use Rattle.lx_forest.proofs.Order.{IsForest-take_out}
@@ -16,7 +16,7 @@ use Rattle.lx_forest.proofs.Within.{is_within-self, is_within-up}
 use Rattle.lx_draft.proofs.Gaps.{child_of, parent_here}
 use Rattle.lx_edit_laws.proofs.WrapTrees.{not_child}
 use Rattle.lx_blocks.specs.Blocks.{passes, is_at}
-use Rattle.lx_list.specs.Nesting.{if_list, nested_in, is_nesting}
+use Rattle.lx_list.specs.Nesting.{if_list, is_nesting}
 use Rattle.lx_list_laws.specs.Staying.{is_further_in, is_behind_list}
 use Rattle.lx_list_laws.proofs.ReadEdits.{so_at}
 use Rattle.lx_list_laws.proofs.ReadDissolved.{within_below}

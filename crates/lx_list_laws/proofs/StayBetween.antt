@@ -1,24 +1,22 @@
 -- An item goes a level deeper between two nesting items: the second one's list goes to the first one's, and it is removed.
-use Rattle.std.proofs.Common.{◌≡◌, ◌≢◌, ◌∙◌, ℕ, ◌⊎◌, Bool, true, false, cond, eqb, ◌&&◌, List, [], ◌∷◌, Option, None, Some, Result, Ok, refl, sym, ap, subst, arith, inl, inr}
+use Rattle.std.proofs.Common.{◌≡◌, ◌≢◌, ◌∙◌, ℕ, ◌⊎◌, Bool, true, false, cond, eqb, [], ◌∷◌, Option, None, Some, Ok, refl, sym, ap, subst, arith, inl, inr}
 use Rattle.std.specs.Prelude.{is_some, option_map}
 use Rattle.std.specs.Option.{option_or}
 use Rattle.std.proofs.lemmas.Bool.{cases_Bool}
 use Rattle.std.proofs.lemmas.Bool.Decides.{eqb_tells}
 use Rattle.lx_trees.specs.Siblings.{is_among, is_named, first_of}
 use Rattle.lx_trees.proofs.Siblings.{first_of-among, names_without-absent_list}
-use Rattle.lx_node.specs.Kinds.{may_hold, is_element, is_item, is_list}
+use Rattle.lx_node.specs.Kinds.{is_element, is_item, is_list}
 use Rattle.lx_node.specs.declared.kind.Kind.{Kind}
 use Rattle.lx_node.specs.declared.cause.Cause.{Cause}
 use Rattle.lx_select.specs.Selection.{ends_of}
 use Rattle.lx_forest.specs.Forest.{Forest, Label}
-use Rattle.lx_forest.specs.Lookups.{has, kind_of, parent_of, children_of, first_child, size_of, ancestors, is_within, is_attached, IsForest, IsHeld}
+use Rattle.lx_forest.specs.Lookups.{has, kind_of, parent_of, children_of, first_child, size_of, ancestors, is_within, is_attached, IsForest}
 use Rattle.lx_forest.specs.Edits.{take_out}
-use Rattle.lx_forest.proofs.Lookups.{has-child, has-parent_of}
-use Rattle.lx_forest.proofs.Walks.{cases_option}
+use Rattle.lx_forest.proofs.Lookups.{has-child}
 use Rattle.lx_forest.proofs.Within.{is_within-self, is_within-up, is_within-parent, is_within-leaf}
 use Rattle.lx_links.specs.Faults.{unknown}
 use Rattle.lx_draft.specs.Working.{Working}
-use Rattle.lx_draft.specs.Faults.{after}
 use Rattle.lx_draft.specs.Selecting.{unlike}
 use Rattle.lx_draft.specs.Steps.{take_step}
 use Rattle.lx_draft.proofs.Gaps.{child_of, parent_here}
@@ -34,12 +32,12 @@ use Rattle.lx_edit_laws.proofs.WrapTurns.{WentOver, left_alone}
 use Rattle.lx_blocks.specs.Blocks.{passes, is_at}
 use Rattle.lx_caret.proofs.Fit.{each_still, Fit}
 use Rattle.lx_caret.proofs.Removes.{IsClear, remove_fits}
-use Rattle.lx_list.specs.Nesting.{if_list, nested_in, is_nesting}
+use Rattle.lx_list.specs.Nesting.{if_list, is_nesting}
 use Rattle.lx_list.proofs.Emptied.{children_gone}
 use Rattle.lx_list_laws.specs.Staying.{is_behind_list}
 use Rattle.lx_list_laws.proofs.ReadDissolved.{within_below}
 use Rattle.lx_list_laws.proofs.ReadEdits.{so_at}
-use Rattle.lx_list_laws.proofs.StayAhead.{Outside, behind_is, none_in_list, first_is_none, GoUnder, outside_under, level_beside, outside_taken}
+use Rattle.lx_list_laws.proofs.StayAhead.{Outside, behind_is, none_in_list, GoUnder, outside_under, level_beside, outside_taken}
 use Rattle.lx_list_laws.proofs.StayKeys.{EachKey, each_same, same_take, same_each, keys_brought}
 use Rattle.lx_list_laws.proofs.StayUnder.{rise, list_no_item, Sends, keys_sent}
 
@@ -104,12 +102,14 @@ two_lists f from to there none same =
 
 -- in a node's tree is the node, or what is in a child's tree
 pub below : (f : Forest) (k q : ℕ) → IsForest f → is_within f k q ≡ true → q ≢ k → (c : ℕ) × (parent_of f c ≡ Some k) × (is_within f c q ≡ true)
-below f k q h inside other = elim (rise f k h (λ x. (x ≡ k) ⊎ ((c : ℕ) × (parent_of f c ≡ Some k) × (is_within f c x ≡ true))) (inl refl) step (ancestors f q) q refl inside) [
+below f k q h inside other = elim (rise f k h Here (inl refl) step (ancestors f q) q refl inside) [
   | inl same ↦ absurd (other same)
   | inr found ↦ found
 ] where
-  step : (x b : ℕ) → parent_of f x ≡ Some b → is_within f k b ≡ true → ((b ≡ k) ⊎ ((c : ℕ) × (parent_of f c ≡ Some k) × (is_within f c b ≡ true)))
-      → (x ≡ k) ⊎ ((c : ℕ) × (parent_of f c ≡ Some k) × (is_within f c x ≡ true))
+  Here : ℕ → Type 0
+  Here x = (x ≡ k) ⊎ ((c : ℕ) × (parent_of f c ≡ Some k) × (is_within f c x ≡ true))
+
+  step : (x b : ℕ) → parent_of f x ≡ Some b → is_within f k b ≡ true → Here b → Here x
   step x b up higher so = elim so [
     | inl same ↦ inr (x, up ∙ ap (λ n. Some n) same, is_within-self f x ∙ has-child f x b up)
     | inr found ↦ inr (found.0, found.1, within_below f found.0 x b h up found.2)
@@ -189,11 +189,11 @@ module _ (u y : Working) (p one list two further : ℕ) (r : Ahead u) (n : AreNe
       ))
       (λ q other out. (outside_under g y.forest further list (children_of g further) went q out, other))
       (same_each list (children_of g further) u taken_all.mid taken_all.moved) r.places) where
-    list_outside : Outside g further → Outside g list
-    list_outside out k b = elim (cases_Bool (is_within g k list)) [
-      | inl is ↦ absurd (grind (arith, out k b, level k b is))
-      | inr is ↦ is
-    ]
+        list_outside : Outside g further → Outside g list
+        list_outside out k b = elim (cases_Bool (is_within g k list)) [
+          | inl is ↦ absurd (grind (arith, out k b, level k b is))
+          | inr is ↦ is
+        ]
 
   -- so none is below the second item
   fit_given : Fit y

@@ -4,7 +4,7 @@ use Rattle.std.specs.Prelude.{option_map}
 use Rattle.std.specs.List.{filter, list_any}
 use Rattle.std.proofs.lemmas.Bool.{cases_Bool}
 use Rattle.std.proofs.lemmas.Bool.Decides.{eqb_tells}
-use Rattle.lx_trees.specs.Siblings.{is_among, names_without}
+use Rattle.lx_trees.specs.Siblings.{is_among}
 use Rattle.lx_trees.proofs.Siblings.{is_among-names_with, names_without-absent_list}
 use Rattle.lx_node.specs.Kinds.{may_hold, is_inline, is_item, is_list, is_element, is_text_block}
 use Rattle.lx_node.specs.Plain.{plain_element}
@@ -30,14 +30,14 @@ use Rattle.lx_draft.specs.Steps.{new_step, take_step}
 use Rattle.lx_draft.specs.Beside.{put_before_step}
 use Rattle.lx_draft.proofs.Gaps.{parent_here, child_of}
 use Rattle.lx_edit.specs.InTurn.{in_turn}
-use Rattle.lx_edit.specs.Edits.{pointed, element_point, moved_to_end, sent_away, remove_step}
+use Rattle.lx_edit.specs.Edits.{pointed, element_point, sent_away, remove_step}
 use Rattle.lx_edit.proofs.Climbed.{first_part, taken-forest, sent_away-forest}
 use Rattle.lx_edit_laws.proofs.WrapSteps.{was_same}
 use Rattle.lx_edit_laws.proofs.WrapTrees.{not_child}
 use Rattle.lx_blocks.specs.Blocks.{passes, is_at, is_line}
 use Rattle.lx_blocks.specs.Ranges.{lies}
 use Rattle.lx_blocks.proofs.Blocked.{found_among, more_among}
-use Rattle.lx_caret.proofs.Fit.{each_moved, each_still, Fit, Stays, stays_self, stays_then, stays_ok, stays_new, stays_pointed}
+use Rattle.lx_caret.proofs.Fit.{each_moved, each_still, Fit, Stays, stays_self, stays_then, stays_new, stays_pointed}
 use Rattle.lx_caret.proofs.Lies.{least}
 use Rattle.lx_caret.proofs.Moves.{stays_before, put_before_in, stays_each_moved}
 use Rattle.lx_caret.proofs.Removes.{IsClear, remove_fits}
@@ -163,12 +163,12 @@ module _ (f g : Forest) (p list : ℕ) (m : IsEmptied f g p list) (none : is_at 
   only_list q so u = elim (eqb_tells q list) [
     | inl same ↦ same.1
     | inr other ↦ elim (list_or_item f q u.listed) [
-        | inl is ↦ absurd (grind (arith, so.0, is, u.nested other.1 is))
-        | inr is ↦
-            let line : is_line f q ≡ true = grind (arith, so.0, is) in
-            let among : is_among q (lines_of f list) ≡ true = among_lines f list q ∙ ap₂ ◌&&◌ u.inside line in
-            absurd (grind (arith, so.1 among))
-      ]
+      | inl is ↦ absurd (grind (arith, so.0, is, u.nested other.1 is))
+      | inr is ↦
+          let line : is_line f q ≡ true = grind (arith, so.0, is) in
+          let among : is_among q (lines_of f list) ≡ true = among_lines f list q ∙ ap₂ ◌&&◌ u.inside line in
+          absurd (grind (arith, so.1 among))
+    ]
   ]
 
   at_h : (test : Kind → Bool) (q : ℕ) → is_at test h q ≡ is_at test g q
@@ -305,9 +305,10 @@ dissolved_remains list w v r place outer e =
       away = λ other. place_still f g p list m none x.key other so;
     }) turned.keys) in
     let same : take_out list g ≡ v.forest = sym (taken-forest list (sent_away list a.0) v alone ∙ ap (take_out list) (sent_away-forest list a.0)) in
+    let taken : EachKey P v = each_same P (sent_away list a.0) v (same_take list (sent_away list a.0) v alone) sent in
     record {
       fit = remove_fits list a.0 v turned.stays.fit clear a.2;
-      places = subst (λ (x : Forest). EachKey (λ q. goes_with_list x q ≡ false) v) same (each_same P (sent_away list a.0) v (same_take list (sent_away list a.0) v alone) sent);
+      places = subst (λ (x : Forest). EachKey (λ q. goes_with_list x q ≡ false) v) same taken;
     }
 
 list_there : (f : Forest) (line list : ℕ) → IsForest f → is_attached f line ≡ true → outermost_above f line ≡ Some list → is_attached f list ≡ true

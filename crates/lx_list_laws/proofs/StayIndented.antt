@@ -1,64 +1,50 @@
 -- Lines that go a level deeper leave each point of a range in the tree, where none is in what comes after the list with which
 -- an item begins.
-use Rattle.std.proofs.Common.{◌≡◌, ◌≢◌, ◌∙◌, ℕ, Bool, true, false, cond, eqb, ◌||◌, List, [], ◌∷◌, Option, None, Some, Ok, refl, sym, ap, subst, arith, inl, inr}
-use Rattle.std.specs.Prelude.{option_map}
+use Rattle.std.proofs.Common.{◌≡◌, ◌≢◌, ◌∙◌, ℕ, Bool, true, false, cond, eqb, List, [], ◌∷◌, Option, None, Some, Ok, refl, sym, ap, subst, arith, inl, inr}
 use Rattle.std.specs.Option.{option_or}
-use Rattle.std.proofs.lemmas.Bool.{cases_Bool}
 use Rattle.std.proofs.lemmas.Bool.Decides.{eqb_tells}
-use Rattle.lx_trees.specs.Siblings.{is_among, first_of, previous_in, next_in}
-use Rattle.lx_trees.proofs.Siblings.{first_of-among, names_without-absent_list}
+use Rattle.lx_trees.specs.Siblings.{first_of, previous_in, next_in}
+use Rattle.lx_trees.proofs.Siblings.{first_of-among}
 use Rattle.lx_node.specs.Kinds.{may_hold, is_item, is_list}
 use Rattle.lx_node.specs.Strings.{characters_of}
-use Rattle.lx_node.specs.declared.kind.Kind.TheVariants.{Item}
 use Rattle.lx_node.specs.declared.fields.Fields.{Fields}
 use Rattle.lx_node.specs.declared.fields.Fields.TheVariants as fields
 use Rattle.lx_node.specs.declared.fields.ElementFields.{ElementFields}
 use Rattle.lx_node.specs.declared.cause.Point.{Point}
 use Rattle.lx_select.specs.Rules.{set_moves}
 use Rattle.lx_text.specs.Texts.{within}
-use Rattle.lx_forest.specs.Forest.{Forest, Label}
-use Rattle.lx_forest.specs.Lookups.{has, kind_of, fields_of, label_of, parent_of, children_of, children_below, first_child, previous_of, next_of, is_within, is_attached, IsForest, IsHeld}
-use Rattle.lx_forest.specs.Edits.{with_new, with_fields}
-use Rattle.lx_forest.proofs.Lookups.{kind_of-with_fields, parent_of-with_fields, children_of-with_fields, NoRepeats-children_of, has-child, has-parent_of}
+use Rattle.lx_forest.specs.Forest.{Forest}
+use Rattle.lx_forest.specs.Lookups.{kind_of, fields_of, parent_of, children_of, children_below, first_child, previous_of, next_of, is_attached, IsForest, IsHeld}
+use Rattle.lx_forest.specs.Edits.{with_fields}
+use Rattle.lx_forest.proofs.Lookups.{kind_of-with_fields, parent_of-with_fields, children_of-with_fields, NoRepeats-children_of}
 use Rattle.lx_forest.proofs.Siblings.{parent_of-next, parent_of-previous}
 use Rattle.lx_forest.proofs.Walks.{cases_option, is_attached-up}
 use Rattle.lx_links.specs.Faults.{set_fault}
-use Rattle.lx_links.proofs.Ordered.{there_within}
 use Rattle.lx_draft.specs.Working.{Working}
-use Rattle.lx_draft.specs.Faults.{after, over_limits}
-use Rattle.lx_draft.specs.Selecting.{lies_in}
-use Rattle.lx_draft.specs.Steps.{fields_written, set_points, new_step, set_step, take_step, put_step}
-use Rattle.lx_draft.specs.Beside.{put_before_step}
+use Rattle.lx_draft.specs.Faults.{over_limits}
+use Rattle.lx_draft.specs.Steps.{fields_written, set_points, set_step, take_step, put_step}
 use Rattle.lx_draft.proofs.Covered.{answered}
 use Rattle.lx_draft.proofs.Gaps.{parent_here}
 use Rattle.lx_edit.specs.Edits.{moved_to_end, remove_step, children_step}
 use Rattle.lx_edit.proofs.Climbed.{first_part}
 use Rattle.lx_edit_laws.proofs.JoinSteps.{next_apart}
 use Rattle.lx_edit_laws.proofs.WrapSteps.{was_moved_to_end, was_same}
-use Rattle.lx_edit_laws.proofs.WrapTrees.{not_child, WasMoved}
+use Rattle.lx_edit_laws.proofs.WrapTrees.{WasMoved}
 use Rattle.lx_blocks.specs.Blocks.{passes, is_at}
-use Rattle.lx_blocks.specs.Ranges.{lies}
-use Rattle.lx_caret.proofs.Fit.{after_tells, each_both, each_still, Fit, Stays, stays_new, stays_put}
-use Rattle.lx_caret.proofs.Lies.{both}
-use Rattle.lx_caret.proofs.Moves.{was_put, stays_before, put_before_in, stays_placed, stays_moved}
-use Rattle.lx_list.specs.Making.{item_fields, with_like, with_indent, changed, set_changed, change_step}
+use Rattle.lx_caret.proofs.Fit.{each_still, Fit}
+use Rattle.lx_caret.proofs.Moves.{stays_placed, stays_moved}
+use Rattle.lx_list.specs.Making.{changed, set_changed, change_step}
 use Rattle.lx_list.specs.Nesting.{if_list, nested_in}
-use Rattle.lx_list.specs.Indenting.{wrapped_like, wrapped_in, taken_from, moved_between, moved_to_front, nested_by, deeper, indented}
+use Rattle.lx_list.specs.Indenting.{taken_from, moved_between, moved_to_front}
 use Rattle.lx_list.proofs.Above.{list_above}
-use Rattle.lx_list.proofs.Itemless.{item_below, there_at}
+use Rattle.lx_list.proofs.Itemless.{item_below}
 use Rattle.lx_list.proofs.Written.{stays_change}
-use Rattle.lx_list_laws.specs.Staying.{is_behind_list}
-use Rattle.lx_list_laws.proofs.LevelAlone.{WentDown, went_down}
 use Rattle.lx_list_laws.proofs.LevelBeside.{before_itself}
-use Rattle.lx_list_laws.proofs.LevelSteps.{label_known, was_moved_to_front, two_kind, two_parent, two_children}
-use Rattle.lx_list_laws.proofs.LevelWraps.{now_order, now_kind, now_parent, now_children, nested_children, item_holds, x_not_list}
-use Rattle.lx_list_laws.proofs.ReadDissolved.{within_below}
-use Rattle.lx_list_laws.proofs.ReadEdits.{so_at}
+use Rattle.lx_list_laws.proofs.LevelSteps.{was_moved_to_front}
 use Rattle.lx_list_laws.proofs.ReadSound.{set_forest}
-use Rattle.lx_list_laws.proofs.StayAhead.{Outside, behind_tells, GoUnder, outside_under, level_beside, outside_carried}
+use Rattle.lx_list_laws.proofs.StayAhead.{Outside, GoUnder, outside_under, level_beside}
 use Rattle.lx_list_laws.proofs.StayBetween.{Ahead, apart_kinds, moved_under, AreNesting, ahead_removed}
-use Rattle.lx_list_laws.proofs.StayKeys.{keys_of, EachKey, each_same, same_moved, same_new, same_take, same_put, same_before, same_to_end}
-use Rattle.lx_list_laws.proofs.StayUnder.{list_no_item}
+use Rattle.lx_list_laws.proofs.StayKeys.{keys_of, each_same, same_moved, same_take, same_put, same_to_end}
 
 -- ---- fields alone
 
@@ -123,7 +109,9 @@ nesting f (Some k) list e = by_first (first_child f k) refl e where
   by_first None is e = absurd (cc)
   by_first (Some c) is e = by_test (is_at is_list f c) refl e where
     by_test : (b : Bool) → is_at is_list f c ≡ b → cond b (Some c) None ≡ Some list → Nesting f (Some k) list
-    by_test true so e = let same : c ≡ list = cc in record { holder = k; is = refl; first = is ∙ ap (λ n. Some n) same; is_list = ap (is_at is_list f) (sym same) ∙ so }
+    by_test true so e =
+        let same : c ≡ list = cc in
+        record { holder = k; is = refl; first = is ∙ ap (λ n. Some n) same; is_list = ap (is_at is_list f) (sym same) ∙ so }
     by_test false so e = absurd (cc)
 
 -- an item beside x, in its list
@@ -145,25 +133,27 @@ near_by f x list side held item beside none e =
     elim (cases_option (parent_of f x)) [
       | inl top ↦ let bad : None ≡ Some nest.holder = sym (none top) ∙ nest.is in absurd (cc)
       | inr (p, up) ↦ record {
-          p = p;
-          up = up;
-          is = list_above f x p held item up;
-          holder = nest.holder;
-          holder_up = (beside nest.holder p up nest.is).0;
-          other = (beside nest.holder p up nest.is).1;
-          first = nest.first;
-          is_list = nest.is_list;
-        }
+        p = p;
+        up = up;
+        is = list_above f x p held item up;
+        holder = nest.holder;
+        holder_up = (beside nest.holder p up nest.is).0;
+        other = (beside nest.holder p up nest.is).1;
+        first = nest.first;
+        is_list = nest.is_list;
+      }
     ]
 
-pub near_before : (f : Forest) (x list : ℕ) → IsForest f → IsHeld may_hold f → is_at is_item f x ≡ true → nested_in f (previous_of f x) ≡ Some list → HasNear f x list
+pub near_before : (f : Forest) (x list : ℕ) → IsForest f → IsHeld may_hold f → is_at is_item f x ≡ true
+    → nested_in f (previous_of f x) ≡ Some list → HasNear f x list
 near_before f x list h held item e =
     near_by f x list (previous_of f x) held item (λ s p up is. (
       parent_of-previous f x s p h up is,
       λ same. before_itself None x (children_of f p) refl (sym (ap (λ o. previous_in (children_below f o) x) up) ∙ is ∙ ap (λ n. Some n) (sym same)),
     )) (λ top. grind (arith, top)) e
 
-pub near_behind : (f : Forest) (x list : ℕ) → IsForest f → IsHeld may_hold f → is_at is_item f x ≡ true → nested_in f (next_of f x) ≡ Some list → HasNear f x list
+pub near_behind : (f : Forest) (x list : ℕ) → IsForest f → IsHeld may_hold f → is_at is_item f x ≡ true
+    → nested_in f (next_of f x) ≡ Some list → HasNear f x list
 near_behind f x list h held item e =
     near_by f x list (next_of f x) held item (λ s p up is. (
       parent_of-next f x s p h up is,

@@ -1,5 +1,5 @@
 -- The nodes that points are on, as nodes are made, taken and put.
-use Rattle.std.proofs.Common.{◌≡◌, ◌≢◌, ◌∙◌, ℕ, List, [], ◌∷◌, Option, None, Some, Result, Ok, refl, sym, ap, ap₂, subst, inl, inr}
+use Rattle.std.proofs.Common.{◌≡◌, ◌≢◌, ◌∙◌, ℕ, List, [], ◌∷◌, Option, None, Some, Ok, refl, sym, ap, ap₂, subst, inl, inr}
 use Rattle.std.specs.Option.{option_or}
 use Rattle.std.proofs.lemmas.Bool.Decides.{eqb_tells}
 use Rattle.lx_node.specs.declared.kind.Kind.{Kind}
@@ -12,7 +12,7 @@ use Rattle.lx_select.specs.Rules.{take_moves, put_moves, carry_moves}
 use Rattle.lx_forest.specs.Lookups.{parent_of, index_of, size_of}
 use Rattle.lx_links.specs.Faults.{detach_fault}
 use Rattle.lx_draft.specs.Working.{Working}
-use Rattle.lx_draft.specs.Faults.{after, over_counts, put_fault}
+use Rattle.lx_draft.specs.Faults.{over_counts, put_fault}
 use Rattle.lx_draft.specs.Steps.{take_points, node_taken, node_placed, new_step, take_step, put_step}
 use Rattle.lx_draft.specs.Beside.{before_at, put_before_step}
 use Rattle.lx_draft.proofs.Covered.{answered}

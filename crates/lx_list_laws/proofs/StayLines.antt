@@ -1,5 +1,5 @@
 -- A step at each selected line keeps a property of the draft, where it does at a line of the root's tree.
-use Rattle.std.proofs.Common.{◌≡◌, ◌∙◌, ℕ, Bool, true, false, cond, List, [], ◌∷◌, Result, Ok, refl, subst}
+use Rattle.std.proofs.Common.{◌≡◌, ℕ, Bool, true, false, cond, List, [], ◌∷◌, Result, Ok, refl, subst}
 use Rattle.lx_node.specs.declared.cause.Cause.{Cause}
 use Rattle.lx_forest.specs.Lookups.{is_attached}
 use Rattle.lx_draft.specs.Working.{Working}

@@ -1,13 +1,11 @@
 -- The two commands of lists that take nodes out of the tree leave each point of a range there, from these places.
-use Rattle.std.proofs.Common.{◌≡◌, ◌∙◌, ℕ, Bool, true, false, ◌&&◌, Option, None, Some, Ok, refl, sym, ap, arith}
-use Rattle.lx_node.specs.Kinds.{may_hold, has_characters, is_item, is_list}
+use Rattle.std.proofs.Common.{◌≡◌, ◌∙◌, ℕ, true, false, Option, None, Some, refl, sym, ap, arith}
+use Rattle.lx_node.specs.Kinds.{has_characters, is_item, is_list}
 use Rattle.lx_node.specs.declared.kind.Kind.{Kind}
 use Rattle.lx_node.specs.declared.kind.Kind.TheVariants as kinds
 use Rattle.lx_node.specs.declared.cause.PointKind.TheVariants as point
 use Rattle.lx_forest.specs.Forest.{Forest}
-use Rattle.lx_forest.specs.Lookups.{kind_of, is_attached, IsHeld}
-use Rattle.lx_draft.specs.Working.{Working, TextsAreShort}
-use Rattle.lx_draft.specs.Covering.{IsReady}
+use Rattle.lx_forest.specs.Lookups.{kind_of, is_attached}
 use Rattle.lx_draft.specs.Selecting.{lies_in, is_counted_in, is_place}
 use Rattle.lx_blocks.specs.Ranges.{lies}
 use Rattle.lx_caret.proofs.Cleared.{range_lies, fit_of}

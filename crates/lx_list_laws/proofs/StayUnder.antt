@@ -1,14 +1,13 @@
 -- What is left below a list whose lines have become paragraphs before it, and how points are sent away from a node.
-use Rattle.std.proofs.Common.{◌≡◌, ◌≢◌, ◌∙◌, ℕ, Bool, true, false, cond, eqb, List, [], ◌∷◌, Option, None, Some, Ok, refl, sym, ap, ap₂, subst, arith, inl, inr}
+use Rattle.std.proofs.Common.{◌≡◌, ◌≢◌, ◌∙◌, ℕ, Bool, true, false, cond, List, [], ◌∷◌, Option, None, Some, Ok, refl, sym, ap, ap₂, subst, arith, inl, inr}
 use Rattle.std.proofs.lemmas.Bool.Decides.{eqb_tells}
-use Rattle.lx_trees.specs.Siblings.{is_among}
 use Rattle.lx_node.specs.Kinds.{may_hold, is_inline, is_block, is_item, is_list, is_paragraph, is_heading, is_row, is_cell, is_link, is_element, has_characters, may_be_empty}
 use Rattle.lx_node.specs.declared.kind.Kind.{Kind}
 use Rattle.lx_node.specs.declared.kind.Kind.TheVariants as kinds
 use Rattle.lx_node.specs.declared.cause.Point.{Point}
 use Rattle.lx_select.specs.Rules.{moved_to}
 use Rattle.lx_forest.specs.Forest.{Forest}
-use Rattle.lx_forest.specs.Lookups.{kind_of, fields_of, parent_of, children_of, size_of, index_of, previous_of, next_of, ancestors, is_within, IsForest, IsHeld}
+use Rattle.lx_forest.specs.Lookups.{kind_of, fields_of, parent_of, size_of, previous_of, next_of, ancestors, is_within, IsForest, IsHeld}
 use Rattle.lx_forest.specs.Edits.{take_out}
 use Rattle.lx_forest.proofs.Siblings.{parent_of-next, parent_of-previous}
 use Rattle.lx_forest.proofs.Lookups.{kind_of-take_out}
@@ -39,20 +38,20 @@ pub rise : (f : Forest) (k : ℕ) → IsForest f → (R : ℕ → Type 0) → R 
 rise f k h R own step [] q are inside = elim (eqb_tells q k) [
   | inl same ↦ subst R (sym same.1) own
   | inr other ↦ elim (cases_option (parent_of f q)) [
-      | inl top ↦ absurd (grind (arith, inside, is_within-top f k q h top other.1))
-      | inr (b, up) ↦ let bad : b ∷ ancestors f b ≡ [] = sym (ancestors-step f q b h up) ∙ are in absurd (cc)
-    ]
+    | inl top ↦ absurd (grind (arith, inside, is_within-top f k q h top other.1))
+    | inr (b, up) ↦ let bad : b ∷ ancestors f b ≡ [] = sym (ancestors-step f q b h up) ∙ are in absurd (cc)
+  ]
 ]
 rise f k h R own step (a ∷ above) q are inside = elim (eqb_tells q k) [
   | inl same ↦ subst R (sym same.1) own
   | inr other ↦ elim (cases_option (parent_of f q)) [
-      | inl top ↦ absurd (grind (arith, inside, is_within-top f k q h top other.1))
-      | inr (b, up) ↦
-          let both : b ∷ ancestors f b ≡ a ∷ above = sym (ancestors-step f q b h up) ∙ are in
-          let rest : ancestors f b ≡ above = cc in
-          let higher : is_within f k b ≡ true = sym (is_within-up f k q b h up other.1) ∙ inside in
-          step q b up higher (rise f k h R own step above b rest higher)
-    ]
+    | inl top ↦ absurd (grind (arith, inside, is_within-top f k q h top other.1))
+    | inr (b, up) ↦
+        let both : b ∷ ancestors f b ≡ a ∷ above = sym (ancestors-step f q b h up) ∙ are in
+        let rest : ancestors f b ≡ above = cc in
+        let higher : is_within f k b ≡ true = sym (is_within-up f k q b h up other.1) ∙ inside in
+        step q b up higher (rise f k h R own step above b rest higher)
+  ]
 ]
 
 -- ---- below an emptied list

@@ -1,13 +1,13 @@
 -- An item that goes into a new list in a new item leaves each point of a range in the tree; and so does every line that goes a
 -- level deeper.
-use Rattle.std.proofs.Common.{◌≡◌, ◌≢◌, ◌∙◌, ℕ, ◌⊎◌, Bool, true, false, cond, eqb, ◌||◌, List, [], ◌∷◌, Option, None, Some, Result, Ok, refl, sym, ap, subst, arith, inl, inr}
+use Rattle.std.proofs.Common.{◌≡◌, ◌≢◌, ◌∙◌, ℕ, ◌⊎◌, Bool, true, false, cond, eqb, ◌||◌, [], ◌∷◌, Option, None, Some, Result, Ok, refl, sym, ap, subst, arith, inl, inr}
 use Rattle.std.proofs.lemmas.Bool.Decides.{eqb_tells}
 use Rattle.lx_trees.proofs.Siblings.{names_without-absent_list}
 use Rattle.lx_node.specs.Kinds.{is_item, is_list}
 use Rattle.lx_node.specs.declared.cause.Cause.{Cause}
 use Rattle.lx_node.specs.declared.kind.Kind.TheVariants.{Item}
 use Rattle.lx_forest.specs.Forest.{Forest, Label}
-use Rattle.lx_forest.specs.Lookups.{has, kind_of, label_of, parent_of, children_of, previous_of, next_of, is_within, is_attached, IsForest}
+use Rattle.lx_forest.specs.Lookups.{has, kind_of, parent_of, children_of, previous_of, next_of, is_within, is_attached, IsForest}
 use Rattle.lx_forest.specs.Edits.{with_new}
 use Rattle.lx_forest.proofs.Lookups.{has-child, has-parent_of}
 use Rattle.lx_links.proofs.Ordered.{there_within}
@@ -34,7 +34,7 @@ use Rattle.lx_list_laws.proofs.LevelAlone.{WentDown, went_down}
 use Rattle.lx_list_laws.proofs.LevelSteps.{label_known, two_kind, two_parent, two_children}
 use Rattle.lx_list_laws.proofs.LevelWraps.{HasSunk, now_order, now_kind, now_parent, now_children, nested_children, item_holds}
 use Rattle.lx_list_laws.proofs.ReadDissolved.{within_below}
-use Rattle.lx_list_laws.proofs.StayAhead.{Outside, behind_tells, ItemsKeep, outside_carried}
+use Rattle.lx_list_laws.proofs.StayAhead.{Outside, behind_tells, outside_carried}
 use Rattle.lx_list_laws.proofs.StayBetween.{Ahead, apart_kinds}
 use Rattle.lx_list_laws.proofs.StayIndented.{changed_ahead, near_before, near_behind, to_end_ahead, to_front_ahead, between_ahead}
 use Rattle.lx_list_laws.proofs.StayKeys.{keys_of, EachKey, each_same, same_new, same_put, same_before, same_to_end}
@@ -70,7 +70,8 @@ wrapped_fits x l w v fit there e =
 
 -- ---- where the new ones are counted at the list that the item left
 
-module _ (w v : Working) (p x : ℕ) (h : IsForest w.forest) (d : WentDown w v p x) (up : parent_of w.forest x ≡ Some p) (is : is_at is_list w.forest p ≡ true) where
+module _ (w v : Working) (p x : ℕ) (h : IsForest w.forest) (d : WentDown w v p x) (up : parent_of w.forest x ≡ Some p)
+    (is : is_at is_list w.forest p ≡ true) where
   abbrev f : Forest
   f = w.forest
 
@@ -139,11 +140,11 @@ module _ (w v : Working) (p x : ℕ) (h : IsForest w.forest) (d : WentDown w v p
         let now : kind_of g q ≡ Some d.list.kind = grind (arith, kind q, same.0) in
         absurd (grind (arith, list_no_item d.list.kind list_kind, sym (ap (passes is_item) now) ∙ item))
     | inr away ↦ elim (eqb_tells q i) [
-        | inl same ↦ inr (l, ap (children_of g) same.1 ∙ item_holds base g p x i l s g l None s.moved (λ e. away.1 (same.1 ∙ sym e)))
-        | inr other ↦
-            let was : is_at is_item f q ≡ true = sym (ap (passes is_item) (kind_old q away.1 other.1)) ∙ item in
-            inl (was, children_old q away.1 other.1 was)
-      ]
+      | inl same ↦ inr (l, ap (children_of g) same.1 ∙ item_holds base g p x i l s g l None s.moved (λ e. away.1 (same.1 ∙ sym e)))
+      | inr other ↦
+          let was : is_at is_item f q ≡ true = sym (ap (passes is_item) (kind_old q away.1 other.1)) ∙ item in
+          inl (was, children_old q away.1 other.1 was)
+    ]
   ]
 
   step : (k q b : ℕ) → is_behind_list f k ≡ true → parent_of g q ≡ Some b → is_within f k (place b) ≡ true → is_within f k (place q) ≡ true
@@ -153,19 +154,19 @@ module _ (w v : Working) (p x : ℕ) (h : IsForest w.forest) (d : WentDown w v p
         let in_p : is_within f k p ≡ true = ap (is_within f k) (sym place_list ∙ ap place is_l) ∙ inside in
         ap (λ n. is_within f k (place n)) same.1 ∙ ap (is_within f k) (place_old x (has-child f x p up)) ∙ within_below f k x p h up in_p
     | inr not_x ↦ elim (eqb_tells q l) [
+      | inl same ↦
+          let is_i : i ≡ b = grind (arith, above q, q_up, not_x.0, same.0) in
+          ap (is_within f k) (ap place same.1 ∙ place_list ∙ sym place_item ∙ ap place is_i) ∙ inside
+      | inr not_l ↦ elim (eqb_tells q i) [
         | inl same ↦
-            let is_i : i ≡ b = grind (arith, above q, q_up, not_x.0, same.0) in
-            ap (is_within f k) (ap place same.1 ∙ place_list ∙ sym place_item ∙ ap place is_i) ∙ inside
-        | inr not_l ↦ elim (eqb_tells q i) [
-            | inl same ↦
-                let is_p : p ≡ b = grind (arith, above q, q_up, not_x.0, not_l.0, same.0) in
-                ap (is_within f k) (ap place same.1 ∙ place_item ∙ sym (place_old p (has-parent_of f x p up)) ∙ ap place is_p) ∙ inside
-            | inr not_i ↦
-                let before : parent_of f q ≡ Some b = grind (arith, above q, q_up, not_x.0, not_l.0, not_i.0) in
-                ap (is_within f k) (place_old q (has-child f q b before))
-                ∙ within_below f k q b h before (ap (is_within f k) (sym (place_old b (has-parent_of f q b before))) ∙ inside)
-          ]
+            let is_p : p ≡ b = grind (arith, above q, q_up, not_x.0, not_l.0, same.0) in
+            ap (is_within f k) (ap place same.1 ∙ place_item ∙ sym (place_old p (has-parent_of f x p up)) ∙ ap place is_p) ∙ inside
+        | inr not_i ↦
+            let before : parent_of f q ≡ Some b = grind (arith, above q, q_up, not_x.0, not_l.0, not_i.0) in
+            ap (is_within f k) (place_old q (has-child f q b before))
+            ∙ within_below f k q b h before (ap (is_within f k) (sym (place_old b (has-parent_of f q b before))) ∙ inside)
       ]
+    ]
   ]
 
   wrapped_outside : (q : ℕ) → has q f ≡ true → Outside f q → Outside g q
