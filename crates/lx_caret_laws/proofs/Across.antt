@@ -168,9 +168,9 @@ index_at (y ∷ ys) x rest out =
     let more = index_at ys x rest (grind (arith, out)) in
     rw other (ap (option_map (λ i. i + 1)) more ∙ ap (λ n. Some n) (omega arith))
 
-record Order (f : Forest) (s e i j : ℕ) : Type 0 where
-  on : comes_first f (text_point s i) (text_point e j) ≡ true
-  back : comes_first f (text_point e j) (text_point s i) ≡ false
+pub record Order (f : Forest) (s e i j : ℕ) : Type 0 where
+  pub on : comes_first f (text_point s i) (text_point e j) ≡ true
+  pub back : comes_first f (text_point e j) (text_point s i) ≡ false
 
 order : (f : Forest) (p s e i j : ℕ) (before mid rest : List ℕ) → AreBeside f p s e before mid rest → s ≢ e → Order f s e i j
 order f p s e i j before mid rest b apart =
@@ -200,7 +200,7 @@ order f p s e i j before mid rest b apart =
     }
 
 -- what a range covers from one text to another, by the order of its points
-either_way : (a c : Point) (s e i j format : ℕ) (w v : Working) → Order w.forest s e i j → s ≢ e
+pub either_way : (a c : Point) (s e i j format : ℕ) (w v : Working) → Order w.forest s e i j → s ≢ e
     → ((a ≡ text_point s i) × (c ≡ text_point e j)) ⊎ ((a ≡ text_point e j) × (c ≡ text_point s i))
     → removed_in (ranged a c format) w ≡ Ok v → remove_between (text_point s i) (text_point e j) w ≡ Ok v
 either_way a c s e i j format w v o apart (inl is) done =
@@ -236,7 +236,7 @@ pub record Across (p s e i j format : ℕ) (one other : TextFields) (before mid 
   pub caret : HasCaret s i format v
   pub fit : Fit v
 
-no_element : (f : Forest) (k : ℕ) → kind_of f k ≡ Some kinds.Text → is_at is_element f k ≡ false
+pub no_element : (f : Forest) (k : ℕ) → kind_of f k ≡ Some kinds.Text → is_at is_element f k ≡ false
 unfolding is_element
 no_element f k kind = rw kind refl
 

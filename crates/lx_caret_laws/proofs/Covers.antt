@@ -53,12 +53,12 @@ keeps_none test (x ∷ xs) none =
 -- ---- trees, one after another
 
 -- a key is in the tree of one of these
-record InOne (f : Forest) (ks : List ℕ) (q : ℕ) : Type 0 where
-  tree : ℕ
-  at : is_among tree ks ≡ true
-  inside : is_within f tree q ≡ true
+pub record InOne (f : Forest) (ks : List ℕ) (q : ℕ) : Type 0 where
+  pub tree : ℕ
+  pub at : is_among tree ks ≡ true
+  pub inside : is_within f tree q ≡ true
 
-in_one : (f : Forest) (ks : List ℕ) (q : ℕ) → is_among q (spread (keys_within f) ks) ≡ true → InOne f ks q
+pub in_one : (f : Forest) (ks : List ℕ) (q : ℕ) → is_among q (spread (keys_within f) ks) ≡ true → InOne f ks q
 in_one f [] q e = absurd (cc)
 in_one f (k ∷ ks) q e = elim (cases_Bool (is_within f k q)) [
   | inl inside ↦ record { tree = k; at = grind (arith, eqb_tells k k); inside = inside }
@@ -67,7 +67,7 @@ in_one f (k ∷ ks) q e = elim (cases_Bool (is_within f k q)) [
       record { tree = rest.tree; at = grind (arith, rest.at); inside = rest.inside }
 ]
 
-among_trees : (f : Forest) (ks : List ℕ) (k q : ℕ) → is_among k ks ≡ true → is_within f k q ≡ true → is_among q (spread (keys_within f) ks) ≡ true
+pub among_trees : (f : Forest) (ks : List ℕ) (k q : ℕ) → is_among k ks ≡ true → is_within f k q ≡ true → is_among q (spread (keys_within f) ks) ≡ true
 among_trees f [] k q e inside = absurd (cc)
 among_trees f (x ∷ xs) k q e inside = elim (eqb_tells x k) [
   | inl own ↦
@@ -106,7 +106,7 @@ tops f test (m ∷ ms) h there top low =
 
 -- ---- from one child on
 
-from_tree : (f : Forest) (n : ℕ) → IsForest f → is_attached f n ≡ true → from f n ≡ keys_within f n ++ behind f n
+pub from_tree : (f : Forest) (n : ℕ) → IsForest f → is_attached f n ≡ true → from f n ≡ keys_within f n ++ behind f n
 from_tree f n h there =
     ap (λ t. named.preorder key_of t ++ behind f n)
     (alone-alone key_of n 0 f (grind (arith, h.once n, there, count-without-alone key_of n 0 f)))

@@ -48,14 +48,14 @@ use Rattle.std.proofs.lemmas.Bool.Decides.{eqb_tells}
 use Rattle.std.specs.Prelude.{is_some}
 
 -- what is needed of a draft in which something was removed, to add something at its first point
-record Allows (p q : Point) (f g : Forest) : Type 0 where
-  element : (b : ℕ) → is_at is_element f b ≡ true → is_at is_element g b ≡ true
-  within : (b : ℕ) → is_within g b p.key ≡ is_within f b p.key
-  there : (b : ℕ) → has b f ≡ true → has b g ≡ true
-  place : (b : ℕ) → is_at is_element f b ≡ true → is_within f b p.key ≡ true → is_within f b q.key ≡ true → place_in g b p ≡ place_in f b p
+pub record Allows (p q : Point) (f g : Forest) : Type 0 where
+  pub element : (b : ℕ) → is_at is_element f b ≡ true → is_at is_element g b ≡ true
+  pub within : (b : ℕ) → is_within g b p.key ≡ is_within f b p.key
+  pub there : (b : ℕ) → has b f ≡ true → has b g ≡ true
+  pub place : (b : ℕ) → is_at is_element f b ≡ true → is_within f b p.key ≡ true → is_within f b q.key ≡ true → place_in g b p ≡ place_in f b p
 
 -- something removed, and something added in its place
-then_added : (f g h : Forest) (p q : Point) (new : List ℕ) → ReadsBetween p q [] f g → ReadsBetween p p new g h → Allows p q f g
+pub then_added : (f g h : Forest) (p q : Point) (new : List ℕ) → ReadsBetween p q [] f g → ReadsBetween p p new g h → Allows p q f g
     → ReadsBetween p q new f h
 then_added f g h p q new one two a = record {
   places = λ b element first second. one.places b element first second;

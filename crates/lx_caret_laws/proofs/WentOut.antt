@@ -142,17 +142,17 @@ caret_counts (Some p) None s i format = refl
 caret_counts (Some p) (Some index) s i format = refl
 
 -- what taking a node leaves besides the forest
-record TookIt (k s : ℕ) (w v : Working) : Type 0 where
-  caret : (i format : ℕ) → w.selection ≡ Range (text_point s i) (text_point s i) format → v.selection ≡ w.selection
-  written : v.written ≡ w.written
+pub record TookIt (k s : ℕ) (w v : Working) : Type 0 where
+  pub caret : (i format : ℕ) → w.selection ≡ Range (text_point s i) (text_point s i) format → v.selection ≡ w.selection
+  pub written : v.written ≡ w.written
 
-took_written : (k : ℕ) (w v : Working) → take_step k w ≡ Ok v → v.written ≡ w.written
+pub took_written : (k : ℕ) (w v : Working) → take_step k w ≡ Ok v → v.written ≡ w.written
 unfolding take_step
 took_written k w v e =
     let told = answered (option_or (detach_fault k w.forest) (over_counts w)) (node_taken k w) v e in
     ap (λ (u : Working). u.written) (sym told.1)
 
-took_caret : (k s i format : ℕ) (w v : Working) → w.selection ≡ Range (text_point s i) (text_point s i) format → take_step k w ≡ Ok v
+pub took_caret : (k s i format : ℕ) (w v : Working) → w.selection ≡ Range (text_point s i) (text_point s i) format → take_step k w ≡ Ok v
     → v.selection ≡ w.selection
 unfolding take_step
 took_caret k s i format w v at e =
@@ -160,7 +160,7 @@ took_caret k s i format w v at e =
     ap (λ (u : Working). u.selection) (sym told.1) ∙ ap (take_points (parent_of w.forest k) (index_of w.forest k)) at
     ∙ caret_counts (parent_of w.forest k) (index_of w.forest k) s i format ∙ sym at
 
-took_it : (k s : ℕ) (w v : Working) → s ≢ k → take_step k (sent_away k w) ≡ Ok v → TookIt k s w v
+pub took_it : (k s : ℕ) (w v : Working) → s ≢ k → take_step k (sent_away k w) ≡ Ok v → TookIt k s w v
 took_it k s w v other e = record {
   caret = λ i format at.
       let off : has_point_on k w.selection ≡ false = ap (has_point_on k) at ∙ grind (arith, other, eqb_tells s k) in

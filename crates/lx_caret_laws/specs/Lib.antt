@@ -6,4 +6,5 @@ pub mod Formats
 pub mod Formatting
 pub mod Ranges
 pub mod Reading
+pub mod Spans
 pub mod Typing
