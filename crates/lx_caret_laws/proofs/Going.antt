@@ -113,7 +113,7 @@ module _ (f : Forest) (s e : ℕ) (a m z : List ℕ) (b : Between f s e a m z) w
       no_repeats_filter (λ k. not (stands_below (parent_of f k) wholly)) wholly
       (no_repeats_filter (λ k. not (is_within f k e)) m (no_repeats_front m (e ∷ z) once))
 
-  in_wholly : (k : ℕ) → is_among k wholly ≡ is_out f m e k
+  pub in_wholly : (k : ℕ) → is_among k wholly ≡ is_out f m e k
   in_wholly k = filter_among (λ k. not (is_within f k e)) m k
 
   in_going : (k : ℕ) → is_among k going ≡ (is_out f m e k && not (stands_below (parent_of f k) wholly))

@@ -16,13 +16,13 @@ use Rattle.lx_forest.proofs.Walks.{ancestors-step, ancestors-top, cases_option}
 use Rattle.lx_forest.proofs.Within.{is_within-leaf, is_within-parent, is_within-take_out}
 use Rattle.lx_forest.specs.Edits.{take_out}
 use Rattle.lx_forest.specs.Forest.{Forest}
-use Rattle.lx_forest.specs.Lookups.{IsForest, ancestors, children_of, is_within, keys_within, kind_of, label_of, parent_of}
+use Rattle.lx_forest.specs.Lookups.{IsForest, ancestors, children_of, is_attached, is_within, keys_within, kind_of, label_of, parent_of}
 use Rattle.lx_forest.specs.Suited.{IsSuited}
 use Rattle.lx_node.specs.declared.kind.Kind.{Kind}
 use Rattle.lx_select.specs.declared.selection.Selection.TheVariants.{Range}
 use Rattle.lx_trees.proofs.Siblings.{names_without-absent_list}
 use Rattle.lx_trees.specs.Siblings.{is_among}
-use Rattle.std.proofs.Common.{Bool, List, None, Ok, Option, Some, [], ap, arith, cond, eqb, false, inl, inr, length, refl, subst, sym, true, ℕ, ◌++◌, ◌∙◌, ◌∷◌, ◌≡◌, ◌≢◌}
+use Rattle.std.proofs.Common.{Bool, List, None, Ok, Option, Some, [], ap, arith, cond, eqb, false, inl, inr, length, refl, subst, sym, true, ℕ, ◌++◌, ◌∙◌, ◌∷◌, ◌≡◌, ◌≢◌, not, ◌&&◌, ◌||◌}
 use Rattle.std.proofs.lemmas.Bool.{cases_Bool}
 use Rattle.std.proofs.lemmas.Bool.Decides.{eqb_tells}
 use Rattle.std.proofs.lemmas.List.{nil_from_length}
@@ -36,6 +36,8 @@ pub record GoneUp (high : ℕ → Bool) (s : ℕ) (w v : Working) : Type 0 where
   pub within : (q : ℕ) → is_within v.forest q s ≡ is_within w.forest q s
   pub cuts : (q : ℕ) (left rest : List ℕ) → is_within w.forest q s ≡ true → keys_within w.forest q ≡ left ++ (s ∷ rest)
       → is_among s left ≡ false → CutAlike w.forest v.forest s q left rest
+  pub fewer : (q : ℕ) → is_attached w.forest q ≡ false → is_attached v.forest q ≡ false
+  pub stays : (q : ℕ) → high q ≡ false → is_attached w.forest q ≡ true → is_attached v.forest q ≡ true
   pub tops : (q : ℕ) → parent_of w.forest q ≡ None → parent_of v.forest q ≡ None
   pub caret : (i format : ℕ) → w.selection ≡ Range (text_point s i) (text_point s i) format → v.selection ≡ w.selection
   pub written : v.written ≡ w.written
@@ -54,6 +56,8 @@ none_gone high s w v h same = subst (GoneUp high s w) same (record {
   others = λ q low. refl;
   within = λ q. refl;
   cuts = λ q left rest inside keys out. record { front = left; back = rest; keys = keys; ahead = refl; behind = refl; away = out };
+  fewer = λ q out. out;
+  stays = λ q low there. there;
   tops = λ q top. top;
   caret = λ i format at. refl;
   written = refl;
@@ -76,6 +80,8 @@ gone_twice high s w u v one two = record {
         behind = second.behind ∙ first.behind;
         away = second.away;
       };
+  fewer = λ q out. two.fewer q (one.fewer q out);
+  stays = λ q low there. two.stays q low (one.stays q low there);
   tops = λ q top. two.tops q (one.tops q top);
   caret = λ i format at. two.caret i format (one.caret i format at ∙ at) ∙ one.caret i format at;
   written = two.written ∙ one.written;
@@ -98,6 +104,8 @@ one_gone high s k w v r is e =
     let h = r.order in
     let forest = taken_is k w v e in
     let took = took_it k s w v (λ same. is.other (sym same)) e in
+    let attached : (q : ℕ) → is_attached v.forest q ≡ (is_attached f q && (is_within f k 0 || not (is_within f k q))) =
+    λ q. ap (λ g. is_attached g q) forest ∙ is_within-take_out k f 0 q h in
     let out : is_within f k s ≡ false = is_within-leaf f k s h is.leaf ∙ grind (arith, is.other, eqb_tells s k) in
     record {
       order = subst IsForest (sym forest) (IsForest-take_out k f h);
@@ -112,6 +120,10 @@ one_gone high s k w v r is e =
       cuts = λ q left rest inside keys away.
           let apart : q ≢ k = λ same. absurd (grind (arith, inside, out, ap (λ x. is_within f x s) same)) in
           subst (λ g. CutAlike f g s q left rest) (sym forest) (leaf_out k s f q left rest h is.leaf is.silent is.other inside apart keys away);
+      fewer = λ q out. attached q ∙ grind (arith, out);
+      stays = λ q low there.
+          let apart : q ≢ k = λ same. absurd (grind (arith, low, is.high_up, ap high same)) in
+          attached q ∙ grind (arith, there, apart, is_within-leaf f k q h is.leaf, eqb_tells q k);
       tops = λ q top. ap (λ g. parent_of g q) forest ∙ parent_of-take_out k f q h ∙ grind (arith, top, eqb_tells q k);
       caret = took.caret;
       written = took.written;

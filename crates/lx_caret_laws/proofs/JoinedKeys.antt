@@ -84,7 +84,7 @@ module _ (g h : Forest) (s e a b : ℕ) (ls rs : List ℕ) (j : Joining g h s e 
   child_up l at = parent_here g b l j.order (ap (is_among l) j.parts ∙ is_among-append l ls rs ∙ grind (arith, at))
 
   -- what went was below the second node, and wasn't it
-  went_below : (x : ℕ) → is_among x went ≡ true → (is_within g b x ≡ true) × (x ≢ b)
+  pub went_below : (x : ℕ) → is_among x went ≡ true → (is_within g b x ≡ true) × (x ≢ b)
   went_below x at =
       let one = in_one g ls x at in
       let up = child_up one.tree one.at in (
@@ -226,7 +226,7 @@ module _ (g h : Forest) (s e a b : ℕ) (ls rs : List ℕ) (j : Joining g h s e 
     ]
   ]
 
-  over_stays : (q : ℕ) → is_within g q s ≡ true → keep q ≡ true
+  pub over_stays : (q : ℕ) → is_within g q s ≡ true → keep q ≡ true
   over_stays q first = elim (cases_Bool (is_among q went)) [
     | inl bad ↦ absurd (grind (arith, not_both s j.holds_first, is_within-trans g b q s j.order (went_below q bad).0 first))
     | inr fine ↦ ap not fine

@@ -1,5 +1,5 @@
 -- Removing between two texts whose blocks are joined: what is read in each node that holds both texts, and in the first block.
-use Rattle.lx_blocks.proofs.Until.{no_repeats_front}
+use Rattle.lx_blocks.proofs.Until.{no_repeats_front, filter_among}
 use Rattle.lx_blocks.specs.Blocks.{leading}
 use Rattle.lx_caret.proofs.Lies.{text_at}
 use Rattle.lx_caret_laws.proofs.CutLists.{HasBoth, HasFirst, HasLast, not_ahead}
@@ -7,10 +7,10 @@ use Rattle.lx_caret_laws.proofs.Emptied.{Emptied}
 use Rattle.lx_caret_laws.proofs.Going.{going}
 use Rattle.lx_caret_laws.proofs.GoneUp.{GoneUp, Rises, empty_gone, none_gone}
 use Rattle.lx_caret_laws.proofs.InPlace.{among-within, below_parent, keys-level}
-use Rattle.lx_caret_laws.proofs.JoinedKeys.{Joining, first_keys, first_reads, joined_keys, not_both}
+use Rattle.lx_caret_laws.proofs.JoinedKeys.{Joining, first_keys, first_reads, joined_keys, not_both, same_but, over_stays, went_below}
 use Rattle.lx_caret_laws.proofs.KeysLeft.{holder_there}
 use Rattle.lx_caret_laws.proofs.LyingBetween.{attached_above, attached_first, attached_last, holds_in, names, stands}
-use Rattle.lx_caret_laws.proofs.Merged.{CutSaid, Over, Setting, ahead_said, away_from, holds_silent, says_by, there_as, leading_splits, left_over, others_then, rest_said, suited_then, within_first, within_last, within_then}
+use Rattle.lx_caret_laws.proofs.Merged.{CutSaid, Over, Setting, ahead_said, away_from, holds_silent, says_by, there_as, leading_splits, left_over, others_then, rest_said, suited_then, within_first, within_last, within_then, attached_then, last_there}
 use Rattle.lx_caret_laws.proofs.MovedOver.{moved_over}
 use Rattle.lx_caret_laws.proofs.ReadOver.{back_says, left_both, left_first, left_last, reads_front, reads_rest, said-append, said-same}
 use Rattle.lx_caret_laws.specs.Reading.{place_in, read_in, said, said_by}
@@ -24,16 +24,16 @@ use Rattle.lx_edit_laws.proofs.Reading.{spread}
 use Rattle.lx_edit_laws.proofs.WrapLists.{filter-gone, filter-kept}
 use Rattle.lx_edit_laws.proofs.WrapTurns.{WentOver, went_over}
 use Rattle.lx_forest.proofs.Lookups.{NoRepeats-children_of}
-use Rattle.lx_forest.proofs.Within.{is_within-parent, is_within-self, is_within-trans}
+use Rattle.lx_forest.proofs.Within.{is_within-parent, is_within-self, is_within-trans, is_within-leaf}
 use Rattle.lx_forest.specs.Forest.{Forest, Label}
-use Rattle.lx_forest.specs.Lookups.{IsForest, children_of, is_within, keys_within, label_of, parent_of, size_of}
+use Rattle.lx_forest.specs.Lookups.{IsForest, children_of, is_within, keys_within, label_of, parent_of, size_of, is_attached}
 use Rattle.lx_forest.specs.Suited.{is_suited}
 use Rattle.lx_node.specs.declared.fields.TextFields.{TextFields}
 use Rattle.lx_text.proofs.Places.{offset_is, parts}
 use Rattle.lx_text.specs.Texts.{front_of, is_offset, rest_of}
 use Rattle.lx_trees.proofs.Siblings.{is_among-append}
 use Rattle.lx_trees.specs.Siblings.{NoRepeats, is_among}
-use Rattle.std.proofs.Common.{Bool, List, None, Ok, Some, [], ap, append_assoc, ap₂, arith, cond, eqb, false, inl, inr, length, not, option_map, refl, subst, sym, true, ℕ, ◌++◌, ◌∙◌, ◌∷◌, ◌≡◌, ◌≢◌}
+use Rattle.std.proofs.Common.{Bool, List, None, Ok, Some, [], ap, append_assoc, ap₂, arith, cond, eqb, false, inl, inr, length, not, option_map, refl, subst, sym, true, ℕ, ◌++◌, ◌∙◌, ◌∷◌, ◌≡◌, ◌≢◌, ◌&&◌}
 use Rattle.std.proofs.lemmas.Bool.Decides.{eqb_tells}
 use Rattle.std.proofs.lemmas.Bool.{cases_Bool}
 use Rattle.std.proofs.lemmas.List.Elements.{filter-append}
@@ -177,6 +177,10 @@ module _ (s e i j : ℕ) (one other : TextFields) (a m z : List ℕ) (w g u v : 
         away = away_from s e i j one other a m z w g x d kb.front kb.ahead;
       }
 
+  -- the keys of what went over
+  abbrev pub moved_keys : List ℕ
+  moved_keys = spread (keys_within g.forest) ls
+
   -- ---- an empty block goes
 
   abbrev pub high : ℕ → Bool
@@ -223,6 +227,56 @@ module _ (s e i j : ℕ) (one other : TextFields) (a m z : List ℕ) (w g u v : 
   gone : GoneUp high s u v × ((children_of u.forest b ≡ []) → parent_of v.forest b ≡ None)
   gone = gone_if (eqb (size_of u.forest b) 0) refl ended
 
+  -- in the root's tree is what was there
+  attached_but : (q : ℕ) → is_among q moved_keys ≡ false → is_attached u.forest q ≡ is_attached g.forest q
+  attached_but q out =
+      let keep : ℕ → Bool = λ c. not (is_among c moved_keys) in
+      let root : is_within g.forest 0 s ≡ true =
+      within_first s e i j one other a m z w g x d 0 ∙ attached_first f s e a m z x.between in
+      let same = same_but g.forest u.forest s e p b ls split.0 joining 0 (holder_there g.forest 0 s root)
+      (over_stays g.forest u.forest s e p b ls split.0 joining 0 root) in
+      let kept : (xs : List ℕ) → is_among q (filter keep xs) ≡ is_among q xs = λ xs. filter_among keep xs q ∙ grind (arith, out) in
+      sym (among-within u.forest 0 q) ∙ sym (kept (keys_within u.forest 0)) ∙ ap (is_among q) same ∙ kept (keys_within g.forest 0)
+      ∙ among-within g.forest 0 q
+
+  attached_same : (q : ℕ) → is_attached u.forest q ≡ is_attached g.forest q
+  attached_same q = elim (cases_Bool (is_among q moved_keys)) [
+    | inl went ↦
+        let low = (went_below g.forest u.forest s e p b ls split.0 joining q went).0 in
+        let p_out : is_among p moved_keys ≡ false = elim (cases_Bool (is_among p moved_keys)) [
+          | inl bad ↦ absurd (grind (arith, k.apart, (went_below g.forest u.forest s e p b ls split.0 joining p bad).0))
+          | inr fine ↦ fine
+        ] in
+        let last : is_attached g.forest e ≡ true = last_there s e i j one other a m z w g x d in
+        let first : is_attached g.forest s ≡ true =
+        within_first s e i j one other a m z w g x d 0 ∙ attached_first f s e a m z x.between in
+        let old : is_attached g.forest q ≡ true =
+        is_within-trans g.forest 0 b q d.ordered (attached_above g.forest b e d.ordered k.last last) low in
+        let p_new : is_attached u.forest p ≡ true = attached_but p p_out ∙ attached_above g.forest p s d.ordered k.first first in
+        let inside : is_within u.forest p q ≡ true =
+        sym (among-within u.forest p q) ∙ ap (is_among q) (first_keys g.forest u.forest s e p b ls split.0 joining)
+        ∙ is_among-append q (keys_within g.forest p) moved_keys ∙ grind (arith, went) in
+        is_within-trans u.forest 0 p q over.in_order p_new inside ∙ sym old
+    | inr out ↦ attached_but q out
+  ]
+
+  -- what doesn't hold the last text isn't above the last node
+  low_by : (q : ℕ) → is_within f q e ≡ false → high q ≡ false
+  low_by q no_last = elim (cases_Bool (is_within g.forest q b)) [
+    | inl bad ↦ absurd (grind (arith, no_last, within_last s e i j one other a m z w g x d q,
+        is_within-trans g.forest q b e d.ordered bad k.last))
+    | inr fine ↦ fine
+  ]
+
+  last_low : high e ≡ false
+  last_low = elim (cases_Bool (is_within g.forest e b)) [
+    | inl bad ↦
+        let leaf : children_of g.forest e ≡ [] =
+        d.children e ∙ ap (filter (λ c. not (is_among c (going f s e a m z x.between)))) x.between.last in
+        absurd (grind (arith, bad, k.other, is_within-leaf g.forest e b d.ordered leaf, eqb_tells b e))
+    | inr fine ↦ fine
+  ]
+
   -- all that is known then
   pub over_joined : Over s e i j one other a m z w v
   over_joined =
@@ -241,19 +295,14 @@ module _ (s e i j : ℕ) (one other : TextFields) (a m z : List ℕ) (w g u v : 
         last = up.label e ∙ over.label e ∙ d.last;
         labels = λ q not_s not_e. up.label q ∙ over.label q ∙ d.labels q not_s not_e;
         others = λ q no_first no_last so.
-            let low : high q ≡ false = elim (cases_Bool (is_within g.forest q b)) [
-              | inl bad ↦ absurd (grind (
-                arith,
-                no_last,
-                within_last s e i j one other a m z w g x d q,
-                is_within-trans g.forest q b e d.ordered bad k.last,
-              ))
-              | inr fine ↦ fine
-            ] in
             let not_b : q ≢ b = λ same. absurd (grind (arith, no_last, f_last, ap (λ y. is_within f y e) same)) in
             let not_p : q ≢ p = λ same. absurd (grind (arith, no_first, f_first, ap (λ y. is_within f y s) same)) in
-            up.others q low ∙ over.others q not_b not_p ∙ others_then s e i j one other a m z w g x d q no_first no_last;
+            up.others q (low_by q no_last) ∙ over.others q not_b not_p ∙ others_then s e i j one other a m z w g x d q no_first no_last;
         within = λ q. up.within q ∙ far.within q ∙ within_then s e i j one other a m z w g x d q;
+        goes = λ q out. up.fewer q (attached_same q ∙ attached_then s e i j one other a m z w g x d q ∙ grind (arith, out));
+        stays = λ q there stays apart.
+            up.stays q (low_by q apart) (attached_same q ∙ attached_then s e i j one other a m z w g x d q ∙ grind (arith, there, stays));
+        last_stays = up.stays e last_low (attached_same e ∙ last_there s e i j one other a m z w g x d);
         keys = λ q kb.
             let c = cut_joined q kb in
             let last = up.cuts q c.left c.rest (holds_in u.forest q s c.left c.rest c.keys) c.keys c.away in
@@ -273,9 +322,6 @@ module _ (s e i j : ℕ) (one other : TextFields) (a m z : List ℕ) (w g u v : 
       }
 
   -- ---- the first block, where the last had inline children alone
-
-  abbrev pub moved_keys : List ℕ
-  moved_keys = spread (keys_within g.forest) ls
 
   first_block : read_in v.forest p ≡ read_in g.forest p ++ said_by g.forest moved_keys
   first_block =

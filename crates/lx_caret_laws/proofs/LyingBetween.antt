@@ -79,7 +79,9 @@ module _ (f : Forest) (s e : ℕ) (a m z : List ℕ) (b : Between f s e a m z) w
       let there : is_attached f q ≡ true = attached_mid q among in
       let own : is_among q (keys_within f q) ≡ true = own_key q there in
       elim (stands q there) [
-        | inl both ↦ absurd (grind (arith, far, holds_in f q e (both.front ++ (s ∷ m)) both.back (both.is ∙ sym (append_assoc both.front (s ∷ m) (e ∷ both.back)))))
+        | inl both ↦
+            absurd (grind (arith, far, holds_in f q e (both.front ++ (s ∷ m)) both.back
+            (both.is ∙ sym (append_assoc both.front (s ∷ m) (e ∷ both.back)))))
         | inr (inl first) ↦ absurd (elim (head_at q _ first.front s first.back (sym (keys-level f q b.order (there_within f 0 q there)) ∙ first.is)) [
           | inl same ↦ grind (arith, same, among, names.s_mid)
           | inr ahead ↦ grind (arith, among, names.front_mid q (first.ahead.each q ahead))

@@ -1,11 +1,13 @@
 -- What removing between two texts leaves, once their blocks are joined, if they are.
+use Rattle.lx_caret_laws.proofs.InPlace.{among-within}
+use Rattle.lx_blocks.proofs.Until.{filter_among}
 use Rattle.lx_blocks.specs.Blocks.{block_of, is_at, leading_in}
 use Rattle.lx_blocks.specs.Ranges.{caret_at}
 use Rattle.lx_caret_laws.proofs.Emptied.{Emptied}
 use Rattle.lx_caret_laws.proofs.Going.{going, going_clear, kept_children, left_children}
 use Rattle.lx_caret_laws.proofs.CutLists.{AreIn, HasBoth}
-use Rattle.lx_caret_laws.proofs.LyingBetween.{Between, names}
-use Rattle.lx_caret_laws.proofs.ReadOver.{LeftOver, back_says, front_says, left_both, said-append}
+use Rattle.lx_caret_laws.proofs.LyingBetween.{Between, names, is_out, attached_last}
+use Rattle.lx_caret_laws.proofs.ReadOver.{LeftOver, back_says, front_says, left_both, said-append, keys_of}
 use Rattle.lx_caret_laws.proofs.Silent.{holder_silent}
 use Rattle.lx_caret_laws.specs.Carets.{HasCaret}
 use Rattle.lx_caret_laws.specs.Ranges.{ReadsNow}
@@ -20,7 +22,7 @@ use Rattle.lx_edit.specs.Edits.{text_point}
 use Rattle.lx_forest.proofs.Tops.{is_within-child}
 use Rattle.lx_forest.proofs.Within.{is_within-ancestors}
 use Rattle.lx_forest.specs.Forest.{Forest, Label}
-use Rattle.lx_forest.specs.Lookups.{IsForest, IsHeld, ancestors, children_of, has, is_within, keys_within, label_of}
+use Rattle.lx_forest.specs.Lookups.{IsForest, IsHeld, ancestors, children_of, has, is_within, keys_within, label_of, is_attached}
 use Rattle.lx_forest.specs.Suited.{IsSuited, is_suited}
 use Rattle.lx_node.specs.Kinds.{is_inline, is_possible, is_text_block, may_hold}
 use Rattle.lx_node.specs.OfKind.{are_text_fields, fits_kind, is_of_kind, is_text_of}
@@ -30,7 +32,7 @@ use Rattle.lx_node.specs.declared.kind.Kind.TheVariants as kinds
 use Rattle.lx_select.specs.declared.selection.Selection.TheVariants.{Range}
 use Rattle.lx_text.specs.Texts.{front_of, rest_of}
 use Rattle.lx_trees.specs.Siblings.{is_among}
-use Rattle.std.proofs.Common.{Bool, List, None, Option, Some, [], ap, ap₂, arith, cond, false, inl, inr, option_map, refl, subst, sym, true, ℕ, ◌++◌, ◌∙◌, ◌∷◌, ◌≡◌, ◌≢◌}
+use Rattle.std.proofs.Common.{Bool, List, None, Option, Some, [], ap, ap₂, arith, cond, false, inl, inr, option_map, refl, subst, sym, true, ℕ, ◌++◌, ◌∙◌, ◌∷◌, ◌≡◌, ◌≢◌, ◌&&◌, not}
 use Rattle.std.proofs.lemmas.Bool.Decides.{eqb_tells}
 use Rattle.std.proofs.lemmas.Bool.{cases_Bool}
 use Rattle.std.specs.Prelude.{find, is_some}
@@ -147,6 +149,10 @@ pub record Over (s e i j : ℕ) (one other : TextFields) (a m z : List ℕ) (w v
   pub others : (q : ℕ) → is_within w.forest q s ≡ false → is_within w.forest q e ≡ false → has q w.forest ≡ true
       → children_of v.forest q ≡ children_of w.forest q
   pub within : (q : ℕ) → is_within v.forest q s ≡ is_within w.forest q s
+  pub goes : (q : ℕ) → is_out w.forest m e q ≡ true → is_attached v.forest q ≡ false
+  pub stays : (q : ℕ) → is_attached w.forest q ≡ true → is_out w.forest m e q ≡ false → is_within w.forest q e ≡ false
+      → is_attached v.forest q ≡ true
+  pub last_stays : is_attached v.forest e ≡ true
   pub keys : (q : ℕ) (k : HasBoth s e a m z (keys_within w.forest q))
       → CutSaid w.forest v.forest s q k.front (rest_of j other.text ++ said_by w.forest k.back)
   pub caret : (format : ℕ) → (caret_at (text_point s i) w).selection ≡ Range (text_point s i) (text_point s i) format → HasCaret s i format v
@@ -189,6 +195,18 @@ module _ (s e i j : ℕ) (one other : TextFields) (a m z : List ℕ) (w g : Work
   pub within_then : (q : ℕ) → is_within g.forest q s ≡ is_within w.forest q s
   within_then q = within_first s e i j one other a m z w g x d q
 
+  -- in the root's tree is what was there and doesn't lie wholly between
+  pub attached_then : (q : ℕ) → is_attached g.forest q ≡ (is_attached w.forest q && not (is_out w.forest m e q))
+  attached_then q =
+      let f : Forest = w.forest in
+      let holds : is_attached f e ≡ true = attached_last f s e a m z x.between in
+      let keys = keys_of f g.forest s e a m z (front_of i one.text) (rest_of j other.text) l 0 e holds (grind (arith, holds)) in
+      sym (among-within g.forest 0 q) ∙ ap (is_among q) keys ∙ filter_among (λ c. not (is_out f m e c)) (keys_within f 0) q
+      ∙ ap (λ t. t && not (is_out f m e q)) (among-within f 0 q)
+
+  pub last_there : is_attached g.forest e ≡ true
+  last_there = attached_then e ∙ grind (arith, attached_last w.forest s e a m z x.between, (names w.forest s e a m z x.between).e_mid)
+
   -- where the blocks aren't joined
   pub over_alone : (v : Working) → g ≡ v → Over s e i j one other a m z w v
   over_alone v same = subst (Over s e i j one other a m z w) same (record {
@@ -198,6 +216,9 @@ module _ (s e i j : ℕ) (one other : TextFields) (a m z : List ℕ) (w g : Work
     labels = d.labels;
     others = λ q first last so. others_then q first last;
     within = within_then;
+    goes = λ q out. attached_then q ∙ grind (arith, out);
+    stays = λ q there stays apart. attached_then q ∙ grind (arith, there, stays);
+    last_stays = last_there;
     keys = cut_both;
     caret = d.caret;
     written = d.written;

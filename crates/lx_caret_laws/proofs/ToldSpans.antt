@@ -6,6 +6,10 @@ use Rattle.lx_caret.specs.Inserting.{broken, insert_line_break_step, insert_tab_
 use Rattle.lx_caret.specs.Lying.{EachPoint}
 use Rattle.lx_caret.specs.Removing.{remove_text_step}
 use Rattle.lx_caret_laws.proofs.Across.{label_stays}
+use Rattle.lx_blocks.specs.Places.{covered}
+use Rattle.lx_caret_laws.proofs.Going.{covers, in_wholly}
+use Rattle.lx_caret_laws.proofs.LyingBetween.{is_out}
+use Rattle.lx_trees.specs.Siblings.{is_among}
 use Rattle.lx_caret_laws.proofs.ReadsOver.{allows_over, between_over}
 use Rattle.lx_caret_laws.proofs.SelectedOver.{AllOver, all_over, deleted_over}
 use Rattle.lx_caret_laws.proofs.TypedAcross.{then_added}
@@ -54,6 +58,13 @@ by_removing back s e i j format one other w v is (inr (inl character)) =
 by_removing back s e i j format one other w v is (inr (inr word)) =
     deleted_over back (word_reach back) s e i j format one other w v is (attached_by w.forest s e is.sound.ready.in_order is.order) word
 
+-- what is covered is what lies wholly between
+covered_is : (s e i j format : ℕ) (one other : TextFields) (w v : Working) (o : AllOver s e i j format one other w v) (q : ℕ)
+    → is_among q (covered w.forest (text_point s i) (text_point e j)) ≡ is_out w.forest o.mid e q
+covered_is s e i j format one other w v o q =
+    ap (is_among q) (covers w.forest s e o.front o.mid o.back o.setting.between i j)
+    ∙ in_wholly w.forest s e o.front o.mid o.back o.setting.between q
+
 gone_over : (s e i j format : ℕ) (one other : TextFields) (w v : Working) → AllOver s e i j format one other w v
     → IsGoneOver s e i j format one other w v
 gone_over s e i j format one other w v o = record {
@@ -61,6 +72,9 @@ gone_over s e i j format one other w v o = record {
   last_reads = o.over.last;
   around = between_over s e i j format one other w v o;
   caret = o.caret;
+  goes = λ q at. o.over.goes q (sym (covered_is s e i j format one other w v o q) ∙ at);
+  stays = λ q there out apart. o.over.stays q there (sym (covered_is s e i j format one other w v o q) ∙ out) apart;
+  last_stays = o.over.last_stays;
 }
 
 -- ---- adding something in the place of what was selected

@@ -6,11 +6,13 @@ use Rattle.lx_node.specs.Kinds.{is_inline}
 use Rattle.lx_node.specs.declared.fields.TextFields.{TextFields}
 use Rattle.lx_select.specs.declared.selection.Selection.TheVariants.{Range}
 use Rattle.lx_text.specs.Texts.{text_length, front_of, rest_of}
-use Rattle.lx_forest.specs.Lookups.{is_within, order_of, parent_of}
+use Rattle.lx_trees.specs.Siblings.{is_among}
+use Rattle.lx_forest.specs.Lookups.{is_attached, is_within, order_of, parent_of}
 use Rattle.lx_forest.specs.Suited.{IsSuited}
 use Rattle.lx_draft.specs.Working.{Working}
 use Rattle.lx_edit.specs.Edits.{text_point}
 use Rattle.lx_blocks.specs.Blocks.{block_of, is_at}
+use Rattle.lx_blocks.specs.Places.{covered}
 use Rattle.lx_blocks.specs.Ranges.{normal_at}
 use Rattle.lx_caret.specs.Removing.{remove_text_step}
 use Rattle.lx_caret.specs.Deleting.{delete_character_step, delete_word_step}
@@ -37,6 +39,12 @@ pub record IsGoneOver (first last from to format : ℕ) (one other : TextFields)
   pub last_reads : ReadsNow v.forest last other (rest_of to other.text)
   pub around : ReadsBetween (text_point first from) (text_point last to) [] w.forest v.forest
   pub caret : HasCaret first from format v
+  -- each node that lay wholly between, such as a text, a rule or a whole block, is in the document no more ..
+  pub goes : (q : ℕ) → is_among q (covered w.forest (text_point first from) (text_point last to)) ≡ true → is_attached v.forest q ≡ false
+  -- .. and each other node still is: for those that hold the last text, such as its block, that isn't said but of the text itself
+  pub stays : (q : ℕ) → is_attached w.forest q ≡ true → is_among q (covered w.forest (text_point first from) (text_point last to)) ≡ false
+      → is_within w.forest q last ≡ false → is_attached v.forest q ≡ true
+  pub last_stays : is_attached v.forest last ≡ true
 
 -- the blocks of two texts, neither of which is in the other, where the last block has nothing but inline children
 pub record AreToJoin (a b first last : ℕ) (w : Working) : Type 0 where
