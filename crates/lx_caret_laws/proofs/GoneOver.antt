@@ -5,7 +5,7 @@ use Rattle.lx_caret.proofs.Lies.{text_at}
 use Rattle.lx_caret.specs.Removing.{are_apart, merge_step, removed_empty}
 use Rattle.lx_caret_laws.proofs.Emptied.{Emptied}
 use Rattle.lx_caret_laws.proofs.Going.{going, going_clear}
-use Rattle.lx_caret_laws.proofs.JoinedOver.{Blocks, block_gone, block_reads, over_joined}
+use Rattle.lx_caret_laws.proofs.JoinedOver.{Blocks, block_gone, block_reads, over_joined, block_offset, block_place}
 use Rattle.lx_caret_laws.proofs.LyingBetween.{attached_above, attached_first, attached_last}
 use Rattle.lx_caret_laws.proofs.Merged.{Over, Setting, block_holds, over_alone, within_first, within_last}
 use Rattle.lx_caret_laws.specs.Spans.{AreJoined}
@@ -150,6 +150,8 @@ module _ (s e i j : ℕ) (one other : TextFields) (a m z : List ℕ) (w g : Work
                   let whole = inline_still b inline in
                   record {
                     reads = block_reads s e i j one other a m z w g by.draft v x d p b k by.ended by.moved in_first in_last whole;
+                    inside = block_offset s e i j one other a m z w g by.draft v x d p b k by.ended by.moved in_first;
+                    place = block_place s e i j one other a m z w g by.draft v x d p b k by.ended by.moved;
                     gone = block_gone s e i j one other a m z w g by.draft v x d p b k by.ended by.moved whole;
                   };
             }

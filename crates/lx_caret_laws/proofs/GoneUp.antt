@@ -38,6 +38,7 @@ pub record GoneUp (high : ℕ → Bool) (s : ℕ) (w v : Working) : Type 0 where
       → is_among s left ≡ false → CutAlike w.forest v.forest s q left rest
   pub fewer : (q : ℕ) → is_attached w.forest q ≡ false → is_attached v.forest q ≡ false
   pub stays : (q : ℕ) → high q ≡ false → is_attached w.forest q ≡ true → is_attached v.forest q ≡ true
+  pub ups : (q p : ℕ) → high q ≡ false → parent_of w.forest q ≡ Some p → parent_of v.forest q ≡ Some p
   pub tops : (q : ℕ) → parent_of w.forest q ≡ None → parent_of v.forest q ≡ None
   pub caret : (i format : ℕ) → w.selection ≡ Range (text_point s i) (text_point s i) format → v.selection ≡ w.selection
   pub written : v.written ≡ w.written
@@ -58,6 +59,7 @@ none_gone high s w v h same = subst (GoneUp high s w) same (record {
   cuts = λ q left rest inside keys out. record { front = left; back = rest; keys = keys; ahead = refl; behind = refl; away = out };
   fewer = λ q out. out;
   stays = λ q low there. there;
+  ups = λ q p low up. up;
   tops = λ q top. top;
   caret = λ i format at. refl;
   written = refl;
@@ -82,6 +84,7 @@ gone_twice high s w u v one two = record {
       };
   fewer = λ q out. two.fewer q (one.fewer q out);
   stays = λ q low there. two.stays q low (one.stays q low there);
+  ups = λ q p low up. two.ups q p low (one.ups q p low up);
   tops = λ q top. two.tops q (one.tops q top);
   caret = λ i format at. two.caret i format (one.caret i format at ∙ at) ∙ one.caret i format at;
   written = two.written ∙ one.written;
@@ -124,6 +127,9 @@ one_gone high s k w v r is e =
       stays = λ q low there.
           let apart : q ≢ k = λ same. absurd (grind (arith, low, is.high_up, ap high same)) in
           attached q ∙ grind (arith, there, apart, is_within-leaf f k q h is.leaf, eqb_tells q k);
+      ups = λ q p low up.
+          let apart : q ≢ k = λ same. absurd (grind (arith, low, is.high_up, ap high same)) in
+          ap (λ g. parent_of g q) forest ∙ parent_of-take_out k f q h ∙ grind (arith, up, apart, eqb_tells q k);
       tops = λ q top. ap (λ g. parent_of g q) forest ∙ parent_of-take_out k f q h ∙ grind (arith, top, eqb_tells q k);
       caret = took.caret;
       written = took.written;

@@ -1,4 +1,5 @@
 -- Removing between two texts whose blocks are joined: what is read in each node that holds both texts, and in the first block.
+use Rattle.lx_caret_laws.proofs.LeafOut.{CutAlike}
 use Rattle.lx_blocks.proofs.Until.{no_repeats_front, filter_among}
 use Rattle.lx_blocks.specs.Blocks.{leading}
 use Rattle.lx_caret.proofs.Lies.{text_at}
@@ -10,10 +11,10 @@ use Rattle.lx_caret_laws.proofs.InPlace.{among-within, below_parent, keys-level}
 use Rattle.lx_caret_laws.proofs.JoinedKeys.{Joining, first_keys, first_reads, joined_keys, not_both, same_but, over_stays, went_below}
 use Rattle.lx_caret_laws.proofs.KeysLeft.{holder_there}
 use Rattle.lx_caret_laws.proofs.LyingBetween.{attached_above, attached_first, attached_last, holds_in, names, stands}
-use Rattle.lx_caret_laws.proofs.Merged.{CutSaid, Over, Setting, ahead_said, away_from, holds_silent, says_by, there_as, leading_splits, left_over, others_then, rest_said, suited_then, within_first, within_last, within_then, attached_then, last_there}
+use Rattle.lx_caret_laws.proofs.Merged.{CutSaid, Over, Setting, ahead_said, away_from, holds_silent, says_by, there_as, leading_splits, left_over, others_then, rest_said, suited_then, within_first, within_last, within_then, attached_then, last_there, up_then}
 use Rattle.lx_caret_laws.proofs.MovedOver.{moved_over}
-use Rattle.lx_caret_laws.proofs.ReadOver.{back_says, left_both, left_first, left_last, reads_front, reads_rest, said-append, said-same}
-use Rattle.lx_caret_laws.specs.Reading.{place_in, read_in, said, said_by}
+use Rattle.lx_caret_laws.proofs.ReadOver.{back_says, left_both, left_first, left_last, reads_front, reads_rest, said-append, said-same, place_at, offset_front}
+use Rattle.lx_caret_laws.specs.Reading.{place_in, read_in, said, said_by, place_along}
 use Rattle.lx_draft.proofs.Gaps.{parent_here}
 use Rattle.lx_draft.specs.Faults.{text_in}
 use Rattle.lx_draft.specs.Selecting.{text_of}
@@ -30,10 +31,10 @@ use Rattle.lx_forest.specs.Lookups.{IsForest, children_of, is_within, keys_withi
 use Rattle.lx_forest.specs.Suited.{is_suited}
 use Rattle.lx_node.specs.declared.fields.TextFields.{TextFields}
 use Rattle.lx_text.proofs.Places.{offset_is, parts}
-use Rattle.lx_text.specs.Texts.{front_of, is_offset, rest_of}
+use Rattle.lx_text.specs.Texts.{front_of, is_offset, rest_of, text_length}
 use Rattle.lx_trees.proofs.Siblings.{is_among-append}
 use Rattle.lx_trees.specs.Siblings.{NoRepeats, is_among}
-use Rattle.std.proofs.Common.{Bool, List, None, Ok, Some, [], ap, append_assoc, ap₂, arith, cond, eqb, false, inl, inr, length, not, option_map, refl, subst, sym, true, ℕ, ◌++◌, ◌∙◌, ◌∷◌, ◌≡◌, ◌≢◌, ◌&&◌}
+use Rattle.std.proofs.Common.{Bool, List, None, Ok, Some, [], ap, append_assoc, ap₂, arith, cond, eqb, false, inl, inr, length, not, option_map, refl, subst, sym, true, ℕ, ◌++◌, ◌∙◌, ◌∷◌, ◌≡◌, ◌≢◌, ◌&&◌, ◌+◌}
 use Rattle.std.proofs.lemmas.Bool.Decides.{eqb_tells}
 use Rattle.std.proofs.lemmas.Bool.{cases_Bool}
 use Rattle.std.proofs.lemmas.List.Elements.{filter-append}
@@ -299,6 +300,19 @@ module _ (s e i j : ℕ) (one other : TextFields) (a m z : List ℕ) (w g u v : 
             let not_p : q ≢ p = λ same. absurd (grind (arith, no_first, f_first, ap (λ y. is_within f y s) same)) in
             up.others q (low_by q no_last) ∙ over.others q not_b not_p ∙ others_then s e i j one other a m z w g x d q no_first no_last;
         within = λ q. up.within q ∙ far.within q ∙ within_then s e i j one other a m z w g x d q;
+        up = λ q at.
+            let s_out : is_among s ls ≡ false = elim (cases_Bool (is_among s ls)) [
+              | inl bad ↦ absurd (grind (arith, first_outside, below_parent g.forest s b d.ordered (child_up s bad)))
+              | inr fine ↦ fine
+            ] in
+            let leaf : children_of g.forest s ≡ [] =
+            d.children s ∙ ap (filter (λ c. not (is_among c (going f s e a m z x.between)))) x.between.first in
+            let low : high s ≡ false = elim (cases_Bool (is_within g.forest s b)) [
+              | inl bad ↦ absurd (grind (arith, bad, not_first, is_within-leaf g.forest s b d.ordered leaf, eqb_tells b s))
+              | inr fine ↦ fine
+            ] in
+            up.ups s q low (over.up s ∙ ap (λ t. cond t (Some p) (parent_of g.forest s)) s_out
+            ∙ up_then s e i j one other a m z w g x d q at);
         goes = λ q out. up.fewer q (attached_same q ∙ attached_then s e i j one other a m z w g x d q ∙ grind (arith, out));
         stays = λ q there stays apart.
             up.stays q (low_by q apart) (attached_same q ∙ attached_then s e i j one other a m z w g x d q ∙ grind (arith, there, stays));
@@ -323,14 +337,23 @@ module _ (s e i j : ℕ) (one other : TextFields) (a m z : List ℕ) (w g u v : 
 
   -- ---- the first block, where the last had inline children alone
 
+  -- the keys of the first block then, cut at the first text
+  first_cut : CutAlike u.forest v.forest s p first_ways.front moved_keys
+  first_cut =
+      let hf = first_ways in
+      let now : keys_within u.forest p ≡ hf.front ++ (s ∷ moved_keys) =
+      first_keys g.forest u.forest s e p b ls split.0 joining ∙ ap (λ t. t ++ moved_keys) own_keys
+      ∙ append_assoc hf.front (s ∷ []) moved_keys in
+      gone.0.cuts p hf.front moved_keys (holds_in u.forest p s hf.front moved_keys now) now
+      (away_from s e i j one other a m z w g x d hf.front hf.ahead)
+
   first_block : read_in v.forest p ≡ read_in g.forest p ++ said_by g.forest moved_keys
   first_block =
       let hf = first_ways in
       let now : keys_within u.forest p ≡ hf.front ++ (s ∷ moved_keys) =
       first_keys g.forest u.forest s e p b ls split.0 joining ∙ ap (λ t. t ++ moved_keys) own_keys
       ∙ append_assoc hf.front (s ∷ []) moved_keys in
-      let away = away_from s e i j one other a m z w g x d hf.front hf.ahead in
-      let c = gone.0.cuts p hf.front moved_keys (holds_in u.forest p s hf.front moved_keys now) now away in
+      let c = first_cut in
       let same_s : said v.forest s ≡ said u.forest s = says_by u.forest v.forest s (gone.0.label s) in
       ap (said_by v.forest) c.keys ∙ said-append v.forest c.front (s ∷ c.back)
       ∙ ap₂ (λ y r. y ++ r) c.ahead (ap₂ (λ y r. y ++ r) same_s c.behind)
@@ -339,6 +362,24 @@ module _ (s e i j : ℕ) (one other : TextFields) (a m z : List ℕ) (w g u v : 
 
   text_said : (k : ℕ) (t : TextFields) → text_in (label_of f k) ≡ Some t → (o : ℕ) → said f k ≡ front_of o t.text ++ rest_of o t.text
   text_said k t here o = ap text_of (text_at f k t here).fields_are ∙ sym (parts o t.text)
+
+  -- the first point is as far in the first block as it was
+  pub block_place : place_in v.forest p (text_point s i) ≡ place_in f p (text_point s i)
+  block_place =
+      let hf = first_ways in
+      let c = first_cut in
+      let front : said_by v.forest c.front ≡ said_by f hf.front =
+      c.ahead ∙ said-same g.forest u.forest hf.front (λ q at. says_by g.forest u.forest q (over.label q))
+      ∙ ahead_said s e i j one other a m z w g x d hf.front hf.ahead in
+      ap (place_along v.forest (text_point s i)) c.keys ∙ place_at v.forest s i c.front c.back c.away
+      ∙ ap (λ t. text_length t + i) front
+      ∙ sym (ap (place_along f (text_point s i)) hf.is ∙ place_at f s i hf.front hf.back (away_from s e i j one other a m z w g x d hf.front hf.ahead))
+
+  pub block_offset : is_offset i one.text ≡ true → is_offset (place_in f p (text_point s i)) (read_in f p) ≡ true
+  block_offset in_first =
+      let hf = first_ways in
+      offset_front f p s i hf.front hf.back (front_of i one.text) (rest_of i one.text) hf.is
+      (away_from s e i j one other a m z w g x d hf.front hf.ahead) (text_said s one x.first i) (offset_is i one.text in_first)
 
   pub block_reads : is_offset i one.text ≡ true → is_offset j other.text ≡ true → ls ≡ children_of g.forest b
       → read_in v.forest p ≡ front_of (place_in f p (text_point s i)) (read_in f p) ++ rest_of (place_in f b (text_point e j)) (read_in f b)

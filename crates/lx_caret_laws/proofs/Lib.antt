@@ -27,6 +27,7 @@ pub mod LyingBetween
 pub mod Merged
 pub mod MovedOver
 pub mod Opened
+pub mod PartedSpans
 pub mod Placed
 pub mod PlacesAfter
 pub mod ReadAcross
@@ -39,6 +40,7 @@ pub mod Silent
 pub mod Spliced
 pub mod SplitSaid
 pub mod Stands
+pub mod Through
 pub mod ToldSpans
 pub mod Turned
 pub mod TypedAcross

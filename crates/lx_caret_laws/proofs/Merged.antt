@@ -1,4 +1,6 @@
 -- What removing between two texts leaves, once their blocks are joined, if they are.
+use Rattle.lx_links.proofs.Ordered.{there_within}
+use Rattle.lx_draft.proofs.Gaps.{child_of, parent_here}
 use Rattle.lx_caret_laws.proofs.InPlace.{among-within}
 use Rattle.lx_blocks.proofs.Until.{filter_among}
 use Rattle.lx_blocks.specs.Blocks.{block_of, is_at, leading_in}
@@ -6,7 +8,7 @@ use Rattle.lx_blocks.specs.Ranges.{caret_at}
 use Rattle.lx_caret_laws.proofs.Emptied.{Emptied}
 use Rattle.lx_caret_laws.proofs.Going.{going, going_clear, kept_children, left_children}
 use Rattle.lx_caret_laws.proofs.CutLists.{AreIn, HasBoth}
-use Rattle.lx_caret_laws.proofs.LyingBetween.{Between, names, is_out, attached_last}
+use Rattle.lx_caret_laws.proofs.LyingBetween.{Between, names, is_out, attached_last, attached_first}
 use Rattle.lx_caret_laws.proofs.ReadOver.{LeftOver, back_says, front_says, left_both, said-append, keys_of}
 use Rattle.lx_caret_laws.proofs.Silent.{holder_silent}
 use Rattle.lx_caret_laws.specs.Carets.{HasCaret}
@@ -20,9 +22,9 @@ use Rattle.lx_draft.specs.Steps.{text_replaced}
 use Rattle.lx_draft.specs.Working.{Working}
 use Rattle.lx_edit.specs.Edits.{text_point}
 use Rattle.lx_forest.proofs.Tops.{is_within-child}
-use Rattle.lx_forest.proofs.Within.{is_within-ancestors}
+use Rattle.lx_forest.proofs.Within.{is_within-ancestors, is_within-self}
 use Rattle.lx_forest.specs.Forest.{Forest, Label}
-use Rattle.lx_forest.specs.Lookups.{IsForest, IsHeld, ancestors, children_of, has, is_within, keys_within, label_of, is_attached}
+use Rattle.lx_forest.specs.Lookups.{IsForest, IsHeld, ancestors, children_of, has, is_within, keys_within, label_of, is_attached, parent_of}
 use Rattle.lx_forest.specs.Suited.{IsSuited, is_suited}
 use Rattle.lx_node.specs.Kinds.{is_inline, is_possible, is_text_block, may_hold}
 use Rattle.lx_node.specs.OfKind.{are_text_fields, fits_kind, is_of_kind, is_text_of}
@@ -149,6 +151,7 @@ pub record Over (s e i j : ℕ) (one other : TextFields) (a m z : List ℕ) (w v
   pub others : (q : ℕ) → is_within w.forest q s ≡ false → is_within w.forest q e ≡ false → has q w.forest ≡ true
       → children_of v.forest q ≡ children_of w.forest q
   pub within : (q : ℕ) → is_within v.forest q s ≡ is_within w.forest q s
+  pub up : (p : ℕ) → parent_of w.forest s ≡ Some p → parent_of v.forest s ≡ Some p
   pub goes : (q : ℕ) → is_out w.forest m e q ≡ true → is_attached v.forest q ≡ false
   pub stays : (q : ℕ) → is_attached w.forest q ≡ true → is_out w.forest m e q ≡ false → is_within w.forest q e ≡ false
       → is_attached v.forest q ≡ true
@@ -207,6 +210,19 @@ module _ (s e i j : ℕ) (one other : TextFields) (a m z : List ℕ) (w g : Work
   pub last_there : is_attached g.forest e ≡ true
   last_there = attached_then e ∙ grind (arith, attached_last w.forest s e a m z x.between, (names w.forest s e a m z x.between).e_mid)
 
+  -- the first text has its parent
+  pub up_then : (p : ℕ) → parent_of w.forest s ≡ Some p → parent_of g.forest s ≡ Some p
+  up_then p up =
+      let gone : List ℕ = going w.forest s e a m z x.between in
+      let stays : is_among s gone ≡ false = elim (cases_Bool (is_among s gone)) [
+        | inl bad ↦ absurd (grind (arith, (going_clear w.forest s e a m z x.between s bad).0, is_within-self w.forest s,
+            there_within w.forest 0 s (attached_first w.forest s e a m z x.between)))
+        | inr fine ↦ fine
+      ] in
+      let old : is_among s (children_of w.forest p) ≡ true = child_of w.forest p s x.between.order up in
+      parent_here g.forest p s d.ordered (ap (is_among s) (d.children p)
+      ∙ filter_among (λ c. not (is_among c gone)) (children_of w.forest p) s ∙ grind (arith, old, stays))
+
   -- where the blocks aren't joined
   pub over_alone : (v : Working) → g ≡ v → Over s e i j one other a m z w v
   over_alone v same = subst (Over s e i j one other a m z w) same (record {
@@ -216,6 +232,7 @@ module _ (s e i j : ℕ) (one other : TextFields) (a m z : List ℕ) (w g : Work
     labels = d.labels;
     others = λ q first last so. others_then q first last;
     within = within_then;
+    up = up_then;
     goes = λ q out. attached_then q ∙ grind (arith, out);
     stays = λ q there stays apart. attached_then q ∙ grind (arith, there, stays);
     last_stays = last_there;

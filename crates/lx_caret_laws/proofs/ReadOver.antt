@@ -11,8 +11,8 @@ use Rattle.lx_forest.proofs.Within.{is_within-self, is_within-trans, is_within-u
 use Rattle.lx_forest.specs.Forest.{Forest}
 use Rattle.lx_forest.specs.Lookups.{IsForest, children_of, has, is_within, keys_within, parent_of}
 use Rattle.lx_text.proofs.Places.{length-append, length-none}
-use Rattle.lx_text.proofs.Told.{front_at, rest_at}
-use Rattle.lx_text.specs.Texts.{front_of, rest_of, text_length}
+use Rattle.lx_text.proofs.Told.{front_at, rest_at, offset_at}
+use Rattle.lx_text.specs.Texts.{front_of, rest_of, text_length, is_offset}
 use Rattle.lx_trees.proofs.Siblings.{is_among-append}
 use Rattle.lx_trees.specs.Siblings.{is_among}
 use Rattle.std.proofs.Common.{Bool, List, Some, [], ap, append-nil, append_assoc, ap₂, arith, cond, eqb, false, inl, inr, not, refl, sym, true, ℕ, ◌++◌, ◌+◌, ◌∙◌, ◌∷◌, ◌≡◌, ◌≢◌}
@@ -258,6 +258,18 @@ reads_front f h q s i front back x y keys s_out now one long says ahead =
     ap (said_by h) now ∙ said-append h front (s ∷ []) ∙ ap₂ (λ p r. p ++ (r ++ [])) ahead says
     ∙ ap (λ t. a ++ t) (append-nil x)
     ∙ sym (front_at (place_in f q (text_point s i)) (a ++ x) (y ++ said_by f back) (read_in f q) old (omega (arith, start, long, length-append a x)))
+
+-- and the first place is one of it
+pub offset_front : (f : Forest) (q s i : ℕ) (front back x y : List ℕ) → keys_within f q ≡ front ++ (s ∷ back) → is_among s front ≡ false
+    → said f s ≡ x ++ y → text_length x ≡ i → is_offset (place_in f q (text_point s i)) (read_in f q) ≡ true
+offset_front f q s i front back x y keys s_out one long =
+    let a : List ℕ = said_by f front in
+    let start : place_in f q (text_point s i) ≡ text_length a + i =
+    ap (place_along f (text_point s i)) keys ∙ place_at f s i front back s_out in
+    let old : read_in f q ≡ (a ++ x) ++ (y ++ said_by f back) =
+    ap (said_by f) keys ∙ said-append f front (s ∷ back) ∙ ap (λ t. a ++ (t ++ said_by f back)) one
+    ∙ ap (λ t. a ++ t) (append_assoc x y (said_by f back)) ∙ sym (append_assoc a x (y ++ said_by f back)) in
+    offset_at (place_in f q (text_point s i)) (a ++ x) (y ++ said_by f back) (read_in f q) old (omega (arith, start, long, length-append a x))
 
 -- in one that holds the last alone its rest is
 pub reads_rest : (f h : Forest) (q e j : ℕ) (front back mid u v : List ℕ) → keys_within f q ≡ front ++ (e ∷ back) → is_among e front ≡ false

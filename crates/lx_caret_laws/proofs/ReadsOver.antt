@@ -112,7 +112,7 @@ module _ (s e i j format : ℕ) (one other : TextFields) (w v : Working) (o : Al
   text_said : (k : ℕ) (t : TextFields) → text_in (label_of f k) ≡ Some t → (at : ℕ) → said f k ≡ front_of at t.text ++ rest_of at t.text
   text_said k t here at = ap text_of (text_at f k t here).fields_are ∙ sym (parts at t.text)
 
-  inside : (q : ℕ) → is_within f q s ≡ true → is_within f q e ≡ true
+  pub inside : (q : ℕ) → is_within f q s ≡ true → is_within f q e ≡ true
       → IsIn (place_in f q from_p) (place_in f q to_p) [] (read_in f q) (read_in v.forest q)
   inside q first last =
       let k = both_ways q first last in
@@ -159,6 +159,15 @@ module _ (s e i j format : ℕ) (one other : TextFields) (w v : Working) (o : Al
   now_there : (k : ℕ) (t : TextFields) (now : List ℕ) → ReadsNow v.forest k t now → has k v.forest ≡ true
   now_there k t now is = sym (is_some-kind_of v.forest k) ∙ ap (λ l. is_some (option_map (λ (l : Label). l.kind) l)) is
 
+  -- the first point is as far as it was in each node that holds both texts
+  pub place_kept : (q : ℕ) → is_within f q s ≡ true → is_within f q e ≡ true → place_in v.forest q from_p ≡ place_in f q from_p
+  place_kept q first second =
+      let k = both_ways q first second in
+      let c = o.over.keys q k in
+      ap (place_along v.forest from_p) c.keys ∙ place_at v.forest s i c.left c.rest c.away
+      ∙ ap (λ t. text_length t + i) c.ahead
+      ∙ sym (ap (place_along f from_p) k.is ∙ place_at f s i k.front (o.mid ++ (e ∷ k.back)) (s_away q k))
+
   -- what is needed to add something at the first point
   pub allows_over : Allows from_p to_p f v.forest
   allows_over = record {
@@ -174,10 +183,5 @@ module _ (s e i j format : ℕ) (one other : TextFields) (w v : Working) (o : Al
         | inr not_e ↦ there_as f v.forest b (o.over.labels b not_s.1 not_e.1) so
       ]
     ];
-    place = λ b element first second.
-        let k = both_ways b first second in
-        let c = o.over.keys b k in
-        ap (place_along v.forest from_p) c.keys ∙ place_at v.forest s i c.left c.rest c.away
-        ∙ ap (λ t. text_length t + i) c.ahead
-        ∙ sym (ap (place_along f from_p) k.is ∙ place_at f s i k.front (o.mid ++ (e ∷ k.back)) (s_away b k));
+    place = λ b element first second. place_kept b first second;
   }

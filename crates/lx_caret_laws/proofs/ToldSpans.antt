@@ -12,6 +12,8 @@ use Rattle.lx_caret_laws.proofs.LyingBetween.{is_out}
 use Rattle.lx_trees.specs.Siblings.{is_among}
 use Rattle.lx_caret_laws.proofs.ReadsOver.{allows_over, between_over}
 use Rattle.lx_caret_laws.proofs.SelectedOver.{AllOver, all_over, deleted_over}
+use Rattle.lx_caret_laws.proofs.PartedSpans.{parted_joined, parted_span}
+use Rattle.lx_caret_laws.proofs.Through.{Through, through}
 use Rattle.lx_caret_laws.proofs.TypedAcross.{then_added}
 use Rattle.lx_caret_laws.proofs.TypedAll.{told-typing}
 use Rattle.lx_caret_laws.proofs.TypedOver.{normal_mode, removes_nothing}
@@ -79,37 +81,6 @@ gone_over s e i j format one other w v o = record {
 
 -- ---- adding something in the place of what was selected
 
--- the draft between: what is selected was removed, and the same command goes on at the caret
-record Through {A : Type 0} (s e i j format : ℕ) (one other : TextFields) (next : Working → Result A Cause) (w : Working) (v : A) : Type 0 where
-  draft : Working
-  over : AllOver s e i j format one other w draft
-  normal : normal_at draft.forest s ≡ Some (record one { text = front_of i one.text })
-  sound : IsSound draft
-  again : after (remove_text_step draft) next ≡ Ok v
-
-through : {A : Type 0} (next : Working → Result A Cause) (s e i j format : ℕ) (one other : TextFields) (w : Working) (v : A)
-    → IsSelectedOver s e i j format one other w → after (remove_text_step w) next ≡ Ok v → Through s e i j format one other next w v
-through next s e i j format one other w v is done =
-    let first = after_tells (remove_text_step w) next v done in
-    let u : Working = first.0 in
-    let o = all_over s e i j format one other w u is first.1.0 in
-    let start : Point = text_point s i in
-    let place : lies u.forest start ≡ true = (subst (EachPoint (λ p. lies u.forest p ≡ true)) o.caret o.fit.lying).0 in
-    let left : TextFields = record one { text = front_of i one.text } in
-    record {
-      draft = u;
-      over = o;
-      normal = ap (λ l. if_normal (text_in l)) o.over.first
-          ∙ ap (λ b. cond b (Some left) None) (normal_mode (text_in (label_of w.forest s)) one is.first_normal);
-      sound = record {
-        ready = o.fit.ready;
-        held = o.fit.held;
-        short = o.fit.short;
-        written = subst (λ n. n ≤ most_written) (sym o.over.written) is.sound.written;
-      };
-      again = ap (λ x. after x next) (removes_nothing start format u o.caret place) ∙ first.1.1;
-    }
-
 -- what is added at the caret is read in the place of what was selected
 added_over : (new : List ℕ) (next : Working → Result Working Cause) (s e i j format : ℕ) (one other : TextFields) (w v : Working)
     → IsSelectedOver s e i j format one other w → after (remove_text_step w) next ≡ Ok v
@@ -165,4 +136,7 @@ told-spans = record {
   line_break = λ s e i j format one other w v is done.
       added_over [] (at_anchor broken) s e i j format one other w v is done
       (λ u caret again. told-typing.line_break (text_point s i) format u v caret again);
+  parted = λ block s e i j format one other w v is up kind holds done.
+      parted_span block s e i j format one other w v is up kind holds done;
+  parted_across = λ a b s e i j format one other w v is up blocks done. parted_joined a b s e i j format one other w v is up blocks done;
 }

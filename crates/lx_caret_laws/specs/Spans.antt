@@ -2,24 +2,25 @@
 -- blocks, or in blocks of which one is in the other.
 use Rattle.std.specs.Prelude.{ℕ, ◌≡◌, ◌≢◌, ◌+◌, ◌++◌, ◌⊎◌, Bool, true, false, List, [], ◌∷◌, None, Some, Ok}
 use Rattle.std.specs.declared.cmp.Ordering.TheVariants.{Less}
-use Rattle.lx_node.specs.Kinds.{is_inline}
+use Rattle.lx_node.specs.Kinds.{is_inline, is_text_block}
 use Rattle.lx_node.specs.declared.fields.TextFields.{TextFields}
 use Rattle.lx_select.specs.declared.selection.Selection.TheVariants.{Range}
-use Rattle.lx_text.specs.Texts.{text_length, front_of, rest_of}
+use Rattle.lx_text.specs.Texts.{text_length, is_offset, front_of, rest_of}
 use Rattle.lx_trees.specs.Siblings.{is_among}
-use Rattle.lx_forest.specs.Lookups.{is_attached, is_within, order_of, parent_of}
+use Rattle.lx_forest.specs.Lookups.{has, is_attached, is_within, order_of, parent_of, children_of}
 use Rattle.lx_forest.specs.Suited.{IsSuited}
 use Rattle.lx_draft.specs.Working.{Working}
 use Rattle.lx_edit.specs.Edits.{text_point}
 use Rattle.lx_blocks.specs.Blocks.{block_of, is_at}
 use Rattle.lx_blocks.specs.Places.{covered}
 use Rattle.lx_blocks.specs.Ranges.{normal_at}
+use Rattle.lx_caret.specs.Paragraphs.{insert_paragraph_step, draft_left}
 use Rattle.lx_caret.specs.Removing.{remove_text_step}
 use Rattle.lx_caret.specs.Deleting.{delete_character_step, delete_word_step}
 use Rattle.lx_caret.specs.Inserting.{insert_text_step, insert_line_break_step, insert_tab_step}
 use Rattle.lx_caret_laws.specs.Carets.{IsSound, HasCaret}
 use Rattle.lx_caret_laws.specs.Ranges.{ReadsNow}
-use Rattle.lx_caret_laws.specs.Reading.{ReadsBetween, read_in, place_in}
+use Rattle.lx_caret_laws.specs.Reading.{ReadsBetween, StaysAside, read_in, reads_in, place_in}
 
 -- A selection from an offset of one normal text to an offset of another that comes after it in the document, whichever is its anchor.
 -- Each node has fields of its kind, as in every draft, so that only texts and tabs say something.
@@ -54,11 +55,22 @@ pub record AreToJoin (a b first last : ℕ) (w : Working) : Type 0 where
   pub apart : is_within w.forest b a ≡ false
   pub inline : (c : ℕ) → parent_of w.forest c ≡ Some b → is_at is_inline w.forest c ≡ true
 
--- the first block reads what it had before the one point, and then what the last had after the other; and the last is gone
+-- The first block reads what it had before the one point, and then what the last had after the other. The caret is at that place of
+-- it, and the last block is gone.
 pub record AreJoined (a b first last from to : ℕ) (w v : Working) : Type 0 where
   pub reads : read_in v.forest a ≡ front_of (place_in w.forest a (text_point first from)) (read_in w.forest a)
       ++ rest_of (place_in w.forest b (text_point last to)) (read_in w.forest b)
+  pub inside : is_offset (place_in w.forest a (text_point first from)) (read_in w.forest a) ≡ true
+  pub place : place_in v.forest a (text_point first from) ≡ place_in w.forest a (text_point first from)
   pub gone : parent_of v.forest b ≡ None
+
+-- The block a, in which a selection begins, was parted: it keeps what it had before the one point, and a new block has what the block b,
+-- in which the selection ends, had after the other. All that holds neither text stays.
+pub record ArePartedOver (a b new first last from to : ℕ) (w v : Working) : Type 0 where
+  pub before : read_in v.forest a ≡ front_of (place_in w.forest a (text_point first from)) (read_in w.forest a)
+  pub behind : reads_in v.forest (children_of v.forest new) ≡ rest_of (place_in w.forest b (text_point last to)) (read_in w.forest b)
+  pub fresh : has new w.forest ≡ false
+  pub aside : StaysAside first last w.forest v.forest
 
 -- a command removed what was selected: to remove it, or to delete a character or a word while something is selected
 abbrev pub Removes : Bool → Working → Working → Type 0
@@ -93,3 +105,13 @@ pub record SpansGiveWay : Type 0 where
   pub line_break : (first last from to format : ℕ) (one other : TextFields) (w v : Working)
       → IsSelectedOver first last from to format one other w → insert_line_break_step w ≡ Ok v
       → ReadsBetween (text_point first from) (text_point last to) [] w.forest v.forest
+  -- a paragraph that is inserted parts the block right above the first text, whether that holds the last text too ..
+  pub parted : (block first last from to format : ℕ) (one other : TextFields) (w v : Working)
+      → IsSelectedOver first last from to format one other w → parent_of w.forest first ≡ Some block
+      → is_at is_text_block w.forest block ≡ true → is_within w.forest block last ≡ true → draft_left (insert_paragraph_step w) ≡ Ok v
+      → (new : ℕ) × ArePartedOver block block new first last from to w v
+  -- .. or the last text's block is joined to it
+  pub parted_across : (a b first last from to format : ℕ) (one other : TextFields) (w v : Working)
+      → IsSelectedOver first last from to format one other w → parent_of w.forest first ≡ Some a → AreToJoin a b first last w
+      → draft_left (insert_paragraph_step w) ≡ Ok v
+      → (new : ℕ) × ArePartedOver a b new first last from to w v
