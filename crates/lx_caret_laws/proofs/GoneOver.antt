@@ -1,4 +1,8 @@
 -- Removing what is selected from one text to another, wherever the two are.
+use Rattle.lx_text.proofs.Places.{offset_is, parts}
+use Rattle.lx_draft.specs.Selecting.{text_of}
+use Rattle.lx_caret_laws.specs.Reading.{said}
+use Rattle.lx_caret_laws.proofs.ReadOver.{reads_front, reads_rest, left_first, left_last, back_says}
 use Rattle.lx_blocks.specs.Blocks.{block_of, is_at, leading, leading_in, passes}
 use Rattle.lx_caret.proofs.Fit.{after_tells}
 use Rattle.lx_caret.proofs.Lies.{text_at}
@@ -6,24 +10,24 @@ use Rattle.lx_caret.specs.Removing.{are_apart, merge_step, removed_empty}
 use Rattle.lx_caret_laws.proofs.Emptied.{Emptied}
 use Rattle.lx_caret_laws.proofs.Going.{going, going_clear}
 use Rattle.lx_caret_laws.proofs.JoinedOver.{Blocks, block_gone, block_reads, over_joined, block_offset, block_place}
-use Rattle.lx_caret_laws.proofs.LyingBetween.{attached_above, attached_first, attached_last}
-use Rattle.lx_caret_laws.proofs.Merged.{Over, Setting, block_holds, over_alone, within_first, within_last}
-use Rattle.lx_caret_laws.specs.Spans.{AreJoined}
+use Rattle.lx_caret_laws.proofs.LyingBetween.{attached_above, attached_first, attached_last, first_alone, last_alone, names}
+use Rattle.lx_caret_laws.proofs.Merged.{Over, Setting, block_holds, over_alone, within_first, within_last, left_over, away_from, ahead_said}
+use Rattle.lx_caret_laws.specs.Spans.{AreJoined, KeepEnds}
 use Rattle.lx_draft.proofs.Gaps.{parent_here}
-use Rattle.lx_draft.specs.Faults.{after}
+use Rattle.lx_draft.specs.Faults.{after, text_in}
 use Rattle.lx_draft.specs.Working.{Working}
 use Rattle.lx_edit.specs.Edits.{moved_to_end, remove_step}
 use Rattle.lx_edit.specs.InTurn.{in_turn}
 use Rattle.lx_forest.proofs.Within.{is_within-trans}
 use Rattle.lx_forest.specs.Forest.{Forest, Label}
-use Rattle.lx_forest.specs.Lookups.{IsForest, children_of, is_attached, is_within, kind_of, parent_of, size_of}
+use Rattle.lx_forest.specs.Lookups.{IsForest, children_of, is_attached, is_within, kind_of, parent_of, size_of, label_of}
 use Rattle.lx_links.proofs.Ordered.{there_within}
 use Rattle.lx_node.specs.Kinds.{is_inline, is_text_block}
 use Rattle.lx_node.specs.declared.fields.TextFields.{TextFields}
 use Rattle.lx_node.specs.declared.kind.Kind.TheVariants as kinds
-use Rattle.lx_text.specs.Texts.{is_offset}
+use Rattle.lx_text.specs.Texts.{is_offset, front_of, rest_of}
 use Rattle.lx_trees.specs.Siblings.{is_among}
-use Rattle.std.proofs.Common.{Bool, List, Ok, Some, [], ap, ap₂, arith, cond, eqb, false, inl, inr, not, option_map, refl, sym, true, ℕ, ◌∙◌, ◌∷◌, ◌≡◌, ◌≢◌, ◌⊎◌}
+use Rattle.std.proofs.Common.{Bool, List, Ok, Some, [], ap, ap₂, arith, cond, eqb, false, inl, inr, not, option_map, refl, sym, true, ℕ, ◌∙◌, ◌∷◌, ◌≡◌, ◌≢◌, ◌⊎◌, subst, ◌++◌}
 use Rattle.std.proofs.lemmas.Bool.Decides.{eqb_tells}
 use Rattle.std.proofs.lemmas.Bool.{cases_Bool}
 use Rattle.std.specs.Prelude.{filter}
@@ -128,11 +132,41 @@ module _ (s e i j : ℕ) (one other : TextFields) (a m z : List ℕ) (w g : Work
         ]
       ])
 
+  -- where nothing is joined, the front and the rest are left
+  text_said : (k : ℕ) (t : TextFields) → text_in (label_of f k) ≡ Some t → (o : ℕ) → said f k ≡ front_of o t.text ++ rest_of o t.text
+  text_said k t here o = ap text_of (text_at f k t here).fields_are ∙ sym (parts o t.text)
+
+  ends_kept : is_offset i one.text ≡ true → is_offset j other.text ≡ true → KeepEnds s e i j w g
+  ends_kept in_first in_last =
+      let l = left_over s e i j one other a m z w g x d in
+      let known = names f s e a m z x.between in
+      record {
+        front = λ q first last.
+            let k = first_alone f s e a m z x.between q first last in
+            reads_front f g.forest q s i k.front k.back (front_of i one.text) (rest_of i one.text) k.is
+            (away_from s e i j one other a m z w g x d k.front k.ahead)
+            (left_first f g.forest s e a m z (front_of i one.text) (rest_of j other.text) l q k last)
+            (text_said s one x.first i) (offset_is i one.text in_first) l.first_says
+            (ahead_said s e i j one other a m z w g x d k.front k.ahead);
+        rest = λ q last first.
+            let k = last_alone f s e a m z x.between q last first in
+            let from = left_last f g.forest s e a m z (front_of i one.text) (rest_of j other.text) l q k in
+            let out : is_among e k.front ≡ false = elim (cases_Bool (is_among e k.front)) [
+              | inl bad ↦ absurd (grind (arith, k.inside.each e bad, known.e_mid))
+              | inr fine ↦ fine
+            ] in
+            reads_rest f g.forest q e j k.front k.back from.mid (front_of j other.text) (rest_of j other.text) k.is out from.keys
+            (text_said e other x.last j) (offset_is j other.text in_last) l.last_says from.silent
+            (back_says f g.forest s e a m z (front_of i one.text) (rest_of j other.text) l k.back k.behind);
+      }
+
   -- what the last part leaves, joined or not
   pub record Ends (p b : ℕ) (v : Working) : Type 0 where
     pub over : Over s e i j one other a m z w v
     pub joins : is_offset i one.text ≡ true → is_offset j other.text ≡ true → is_within f p b ≡ false → is_within f b p ≡ false
         → ((c : ℕ) → parent_of f c ≡ Some b → is_at is_inline f c ≡ true) → AreJoined p b s e i j w v
+    pub keeps : is_offset i one.text ≡ true → is_offset j other.text ≡ true → (is_within f p b ≡ true) ⊎ (is_within f b p ≡ true)
+        → KeepEnds s e i j w v
 
   pub ends : (p b : ℕ) (v : Working) → block_of f s ≡ Some p → block_of f e ≡ Some b → merge_step (block_of f s) (block_of f e) g ≡ Ok v → Ends p b v
   ends p b v first_block last_block e_done =
@@ -145,6 +179,10 @@ module _ (s e i j : ℕ) (one other : TextFields) (a m z : List ℕ) (w g : Work
         | inl by ↦
             let k = blocks_of p b one_holds.0 two_holds.0 other_than (grind (arith, by.apart)) (grind (arith, by.apart)) in
             record {
+              keeps = λ in_first in_last nested. absurd (elim nested [
+                | inl holds ↦ grind (arith, by.apart, holds, within_holder_last p b two_holds.0)
+                | inr holds ↦ grind (arith, by.apart, holds, within_holder b p one_holds.0)
+              ]);
               over = over_joined s e i j one other a m z w g by.draft v x d p b k by.ended by.moved;
               joins = λ in_first in_last outside apart inline.
                   let whole = inline_still b inline in
@@ -156,6 +194,7 @@ module _ (s e i j : ℕ) (one other : TextFields) (a m z : List ℕ) (w g : Work
                   };
             }
         | inr (not_apart, same) ↦ record {
+          keeps = λ in_first in_last nested. subst (KeepEnds s e i j w) same (ends_kept in_first in_last);
           over = over_alone s e i j one other a m z w g x d v same;
           joins = λ in_first in_last outside apart inline.
               let p_there : is_attached g.forest p ≡ true =

@@ -10,7 +10,7 @@ use Rattle.lx_caret_laws.proofs.GoneUp.{GoneUp, Rises, empty_gone, none_gone}
 use Rattle.lx_caret_laws.proofs.InPlace.{among-within, below_parent, keys-level}
 use Rattle.lx_caret_laws.proofs.JoinedKeys.{Joining, first_keys, first_reads, joined_keys, not_both, same_but, over_stays, went_below}
 use Rattle.lx_caret_laws.proofs.KeysLeft.{holder_there}
-use Rattle.lx_caret_laws.proofs.LyingBetween.{attached_above, attached_first, attached_last, holds_in, names, stands}
+use Rattle.lx_caret_laws.proofs.LyingBetween.{attached_above, attached_first, holds_in, names, first_alone, last_alone}
 use Rattle.lx_caret_laws.proofs.Merged.{CutSaid, Over, Setting, ahead_said, away_from, holds_silent, says_by, there_as, leading_splits, left_over, others_then, rest_said, suited_then, within_first, within_last, within_then, attached_then, last_there, up_then}
 use Rattle.lx_caret_laws.proofs.MovedOver.{moved_over}
 use Rattle.lx_caret_laws.proofs.ReadOver.{back_says, left_both, left_first, left_last, reads_front, reads_rest, said-append, said-same, place_at, offset_front}
@@ -34,7 +34,7 @@ use Rattle.lx_text.proofs.Places.{offset_is, parts}
 use Rattle.lx_text.specs.Texts.{front_of, is_offset, rest_of, text_length}
 use Rattle.lx_trees.proofs.Siblings.{is_among-append}
 use Rattle.lx_trees.specs.Siblings.{NoRepeats, is_among}
-use Rattle.std.proofs.Common.{Bool, List, None, Ok, Some, [], ap, append_assoc, ap₂, arith, cond, eqb, false, inl, inr, length, not, option_map, refl, subst, sym, true, ℕ, ◌++◌, ◌∙◌, ◌∷◌, ◌≡◌, ◌≢◌, ◌&&◌, ◌+◌}
+use Rattle.std.proofs.Common.{Bool, List, None, Ok, Some, [], ap, append_assoc, ap₂, arith, cond, eqb, false, inl, inr, length, not, option_map, refl, subst, sym, true, ℕ, ◌++◌, ◌∙◌, ◌∷◌, ◌≡◌, ◌≢◌, ◌+◌}
 use Rattle.std.proofs.lemmas.Bool.Decides.{eqb_tells}
 use Rattle.std.proofs.lemmas.Bool.{cases_Bool}
 use Rattle.std.proofs.lemmas.List.Elements.{filter-append}
@@ -122,42 +122,12 @@ module _ (s e i j : ℕ) (one other : TextFields) (a m z : List ℕ) (w g u v : 
   order : IsForest f
   order = x.between.order
 
-  -- the first node holds the first text alone
+  -- the first node holds the first text alone, and the last node the last one
   first_ways : HasFirst s e a m z (keys_within f p)
-  first_ways =
-      let inside : is_among s (keys_within f p) ≡ true = among-within f p s ∙ f_first in
-      let known = names f s e a m z x.between in
-      elim (stands f s e a m z x.between p (attached_above f p s order f_first (attached_first f s e a m z x.between))) [
-        | inl both ↦
-            absurd (grind (
-              arith,
-              f_last_outside,
-              holds_in f p e (both.front ++ (s ∷ m)) both.back (both.is ∙ sym (append_assoc both.front (s ∷ m) (e ∷ both.back))),
-            ))
-        | inr (inl first) ↦ first
-        | inr (inr (inl last)) ↦ absurd (grind (arith, f_last_outside, holds_in f p e last.front last.back last.is))
-        | inr (inr (inr none)) ↦ absurd (elim none.each [
-          | inl ahead ↦ grind (arith, ahead.each s inside, known.s_front)
-          | inr (inl mid) ↦ grind (arith, mid.each s inside, known.s_mid)
-          | inr (inr behind) ↦ grind (arith, behind.each s inside, known.s_back)
-        ])
-      ]
+  first_ways = first_alone f s e a m z x.between p f_first f_last_outside
 
-  -- and the last node the last one
   last_ways : HasLast s e a m z (keys_within f b)
-  last_ways =
-      let inside : is_among e (keys_within f b) ≡ true = among-within f b e ∙ f_last in
-      let known = names f s e a m z x.between in
-      elim (stands f s e a m z x.between b (attached_above f b e order f_last (attached_last f s e a m z x.between))) [
-        | inl both ↦ absurd (grind (arith, f_first_outside, holds_in f b s both.front (m ++ (e ∷ both.back)) both.is))
-        | inr (inl first) ↦ absurd (grind (arith, f_first_outside, holds_in f b s first.front first.back first.is))
-        | inr (inr (inl last)) ↦ last
-        | inr (inr (inr none)) ↦ absurd (elim none.each [
-          | inl ahead ↦ grind (arith, ahead.each e inside, known.e_front)
-          | inr (inl mid) ↦ grind (arith, mid.each e inside, known.e_mid)
-          | inr (inr behind) ↦ grind (arith, behind.each e inside, known.e_back)
-        ])
-      ]
+  last_ways = last_alone f s e a m z x.between b f_last f_first_outside
 
   own_keys : keys_within g.forest p ≡ first_ways.front ++ (s ∷ [])
   own_keys =
@@ -264,8 +234,12 @@ module _ (s e i j : ℕ) (one other : TextFields) (a m z : List ℕ) (w g u v : 
   -- what doesn't hold the last text isn't above the last node
   low_by : (q : ℕ) → is_within f q e ≡ false → high q ≡ false
   low_by q no_last = elim (cases_Bool (is_within g.forest q b)) [
-    | inl bad ↦ absurd (grind (arith, no_last, within_last s e i j one other a m z w g x d q,
-        is_within-trans g.forest q b e d.ordered bad k.last))
+    | inl bad ↦ absurd (grind (
+      arith,
+      no_last,
+      within_last s e i j one other a m z w g x d q,
+      is_within-trans g.forest q b e d.ordered bad k.last,
+    ))
     | inr fine ↦ fine
   ]
 

@@ -1,6 +1,6 @@
 -- What lies between two leaves in the root's tree: the nodes that come after the first and before the last in preorder, but for
 -- those that the last is in.
-use Rattle.lx_caret_laws.proofs.CutLists.{AreIn, Parted, Ways, parted, ways}
+use Rattle.lx_caret_laws.proofs.CutLists.{AreIn, Parted, Ways, parted, ways, HasFirst, HasLast}
 use Rattle.lx_caret_laws.proofs.InPlace.{among-within, keys-level}
 use Rattle.lx_caret_laws.proofs.KeysLeft.{tree_in}
 use Rattle.lx_forest.proofs.Edits.{parent_of-root}
@@ -80,8 +80,12 @@ module _ (f : Forest) (s e : ℕ) (a m z : List ℕ) (b : Between f s e a m z) w
       let own : is_among q (keys_within f q) ≡ true = own_key q there in
       elim (stands q there) [
         | inl both ↦
-            absurd (grind (arith, far, holds_in f q e (both.front ++ (s ∷ m)) both.back
-            (both.is ∙ sym (append_assoc both.front (s ∷ m) (e ∷ both.back)))))
+            absurd (grind (
+              arith,
+              far,
+              holds_in f q e (both.front ++ (s ∷ m)) both.back
+                  (both.is ∙ sym (append_assoc both.front (s ∷ m) (e ∷ both.back))),
+            ))
         | inr (inl first) ↦ absurd (elim (head_at q _ first.front s first.back (sym (keys-level f q b.order (there_within f 0 q there)) ∙ first.is)) [
           | inl same ↦ grind (arith, same, among, names.s_mid)
           | inr ahead ↦ grind (arith, among, names.front_mid q (first.ahead.each q ahead))
@@ -129,4 +133,40 @@ module _ (f : Forest) (s e : ℕ) (a m z : List ℕ) (b : Between f s e a m z) w
           ]
           | inr (inr behind) ↦ absurd (grind (arith, among, names.mid_back c (behind.each c here)))
         ]
+      ]
+
+  -- a node that holds the first leaf alone
+  pub first_alone : (q : ℕ) → is_within f q s ≡ true → is_within f q e ≡ false → HasFirst s e a m z (keys_within f q)
+  first_alone q holds far =
+      let inside : is_among s (keys_within f q) ≡ true = among-within f q s ∙ holds in
+      elim (stands q (attached_above f q s b.order holds attached_first)) [
+        | inl both ↦
+            absurd (grind (
+              arith,
+              far,
+              holds_in f q e (both.front ++ (s ∷ m)) both.back
+                  (both.is ∙ sym (append_assoc both.front (s ∷ m) (e ∷ both.back))),
+            ))
+        | inr (inl first) ↦ first
+        | inr (inr (inl last)) ↦ absurd (grind (arith, far, holds_in f q e last.front last.back last.is))
+        | inr (inr (inr none)) ↦ absurd (elim none.each [
+          | inl ahead ↦ grind (arith, ahead.each s inside, names.s_front)
+          | inr (inl mid) ↦ grind (arith, mid.each s inside, names.s_mid)
+          | inr (inr behind) ↦ grind (arith, behind.each s inside, names.s_back)
+        ])
+      ]
+
+  -- one that holds the last alone
+  pub last_alone : (q : ℕ) → is_within f q e ≡ true → is_within f q s ≡ false → HasLast s e a m z (keys_within f q)
+  last_alone q holds far =
+      let inside : is_among e (keys_within f q) ≡ true = among-within f q e ∙ holds in
+      elim (stands q (attached_above f q e b.order holds attached_last)) [
+        | inl both ↦ absurd (grind (arith, far, holds_in f q s both.front (m ++ (e ∷ both.back)) both.is))
+        | inr (inl first) ↦ absurd (grind (arith, far, holds_in f q s first.front first.back first.is))
+        | inr (inr (inl last)) ↦ last
+        | inr (inr (inr none)) ↦ absurd (elim none.each [
+          | inl ahead ↦ grind (arith, ahead.each e inside, names.e_front)
+          | inr (inl mid) ↦ grind (arith, mid.each e inside, names.e_mid)
+          | inr (inr behind) ↦ grind (arith, behind.each e inside, names.e_back)
+        ])
       ]

@@ -215,8 +215,12 @@ module _ (s e i j : ℕ) (one other : TextFields) (a m z : List ℕ) (w g : Work
   up_then p up =
       let gone : List ℕ = going w.forest s e a m z x.between in
       let stays : is_among s gone ≡ false = elim (cases_Bool (is_among s gone)) [
-        | inl bad ↦ absurd (grind (arith, (going_clear w.forest s e a m z x.between s bad).0, is_within-self w.forest s,
-            there_within w.forest 0 s (attached_first w.forest s e a m z x.between)))
+        | inl bad ↦ absurd (grind (
+          arith,
+          (going_clear w.forest s e a m z x.between s bad).0,
+          is_within-self w.forest s,
+          there_within w.forest 0 s (attached_first w.forest s e a m z x.between),
+        ))
         | inr fine ↦ fine
       ] in
       let old : is_among s (children_of w.forest p) ≡ true = child_of w.forest p s x.between.order up in

@@ -9,7 +9,7 @@ use Rattle.lx_caret_laws.proofs.BrokenUp.{left_tells, told-breaking}
 use Rattle.lx_caret_laws.proofs.EditedIn.{around_it}
 use Rattle.lx_caret_laws.proofs.ReadsOver.{allows_over, between_over, inside, place_kept}
 use Rattle.lx_caret_laws.proofs.SelectedOver.{AllOver}
-use Rattle.lx_caret_laws.proofs.Through.{Through, through}
+use Rattle.lx_caret_laws.proofs.Through.{through}
 use Rattle.lx_caret_laws.specs.Breaking.{IsBroken}
 use Rattle.lx_caret_laws.specs.Reading.{place_in, read_in}
 use Rattle.lx_caret_laws.specs.Spans.{ArePartedOver, AreToJoin, IsSelectedOver}
@@ -17,8 +17,7 @@ use Rattle.lx_draft.proofs.Gaps.{child_of}
 use Rattle.lx_draft.specs.Faults.{after}
 use Rattle.lx_draft.specs.Working.{Working}
 use Rattle.lx_edit.specs.Edits.{text_point}
-use Rattle.lx_forest.proofs.Lookups.{has-child, has-parent_of, parent_of-self}
-use Rattle.lx_forest.proofs.Within.{is_within-self, is_within-up}
+use Rattle.lx_forest.proofs.Lookups.{has-child, parent_of-self}
 use Rattle.lx_forest.specs.Forest.{Forest, Label}
 use Rattle.lx_forest.specs.Lookups.{children_of, has, is_within, parent_of}
 use Rattle.lx_node.specs.Kinds.{is_text_block}
@@ -29,8 +28,7 @@ use Rattle.lx_text.proofs.Places.{offset_is}
 use Rattle.lx_text.proofs.Told.{front_at, rest_at}
 use Rattle.lx_text.specs.Texts.{front_of, is_offset, rest_of, text_length}
 use Rattle.lx_trees.specs.Siblings.{is_among}
-use Rattle.std.proofs.Common.{Bool, List, None, Ok, Option, Result, Some, [], ap, append-nil, arith, false, inl, inr, option_map, sym, true, ℕ, ◌++◌, ◌∙◌, ◌∷◌, ◌≡◌, ◌≢◌}
-use Rattle.std.proofs.lemmas.Bool.Decides.{eqb_tells}
+use Rattle.std.proofs.Common.{List, Ok, Result, Some, [], ap, append-nil, arith, false, inl, inr, option_map, sym, true, ℕ, ◌++◌, ◌∙◌, ◌≡◌, ◌≢◌}
 use Rattle.std.proofs.lemmas.Bool.{cases_Bool}
 
 -- the first block reads its front and what the other had after the second point, with the caret between

@@ -1,44 +1,22 @@
 -- A command that first removes what is selected from one text to another, and then goes on at the caret.
-use Rattle.lx_blocks.specs.Ranges.{at_anchor, if_normal, lies, normal_at}
+use Rattle.lx_blocks.specs.Ranges.{if_normal, lies, normal_at}
 use Rattle.lx_caret.proofs.Fit.{after_tells}
-use Rattle.lx_caret.specs.Deleting.{cluster_reach, delete_character_step, delete_word_step, word_reach}
-use Rattle.lx_caret.specs.Inserting.{broken, insert_line_break_step, insert_tab_step, insert_text_step, tabbed, typed}
 use Rattle.lx_caret.specs.Lying.{EachPoint}
 use Rattle.lx_caret.specs.Removing.{remove_text_step}
-use Rattle.lx_caret_laws.proofs.Across.{label_stays}
-use Rattle.lx_blocks.specs.Places.{covered}
-use Rattle.lx_caret_laws.proofs.Going.{covers, in_wholly}
-use Rattle.lx_caret_laws.proofs.LyingBetween.{is_out}
-use Rattle.lx_trees.specs.Siblings.{is_among}
-use Rattle.lx_caret_laws.proofs.ReadsOver.{allows_over, between_over}
-use Rattle.lx_caret_laws.proofs.SelectedOver.{AllOver, all_over, deleted_over}
-use Rattle.lx_caret_laws.proofs.TypedAcross.{then_added}
-use Rattle.lx_caret_laws.proofs.TypedAll.{told-typing}
+use Rattle.lx_caret_laws.proofs.SelectedOver.{AllOver, all_over}
 use Rattle.lx_caret_laws.proofs.TypedOver.{normal_mode, removes_nothing}
 use Rattle.lx_caret_laws.specs.Carets.{IsSound}
-use Rattle.lx_caret_laws.specs.Reading.{ReadsBetween}
-use Rattle.lx_caret_laws.specs.Spans.{IsGoneOver, IsSelectedOver, IsTypedOverSpan, Removes, SpansGiveWay}
-use Rattle.lx_caret_laws.specs.Typing.{IsCaretAt, IsTyped}
+use Rattle.lx_caret_laws.specs.Spans.{IsSelectedOver}
 use Rattle.lx_draft.specs.Faults.{after, text_in}
-use Rattle.lx_draft.specs.Steps.{text_replaced}
 use Rattle.lx_draft.specs.Working.{Working}
 use Rattle.lx_edit.specs.Edits.{text_point}
-use Rattle.lx_edit.specs.Texts.{has_no_text}
-use Rattle.lx_forest.proofs.Walks.{order_of-detached}
-use Rattle.lx_forest.specs.Forest.{Forest, Label}
-use Rattle.lx_forest.specs.Lookups.{IsForest, is_attached, label_of, order_of}
+use Rattle.lx_forest.specs.Lookups.{label_of}
 use Rattle.lx_node.specs.Limits.{most_written}
 use Rattle.lx_node.specs.declared.cause.Cause.{Cause}
 use Rattle.lx_node.specs.declared.cause.Point.{Point}
 use Rattle.lx_node.specs.declared.fields.TextFields.{TextFields}
-use Rattle.lx_node.specs.declared.kind.Kind.TheVariants as kinds
-use Rattle.lx_text.proofs.Places.{front-length, rest-end}
-use Rattle.lx_text.proofs.Told.{front-end}
-use Rattle.lx_text.specs.Texts.{front_of, rest_of, text_length}
-use Rattle.std.proofs.Common.{Bool, List, None, Ok, Result, Some, [], ap, append-nil, ap₂, arith, cond, inl, inr, subst, sym, true, ℕ, ◌&&◌, ◌++◌, ◌∙◌, ◌∷◌, ◌≡◌, ◌≢◌, ◌≤◌}
-use Rattle.std.proofs.lemmas.Bool.{cases_Bool}
-use Rattle.std.specs.Prelude.{is_some}
-use Rattle.std.specs.declared.cmp.Ordering.TheVariants as ordering
+use Rattle.lx_text.specs.Texts.{front_of}
+use Rattle.std.proofs.Common.{None, Ok, Result, Some, ap, cond, subst, sym, true, ℕ, ◌∙◌, ◌≡◌, ◌≤◌}
 
 -- the draft between: what is selected was removed, and the same command goes on at the caret
 pub record Through {A : Type 0} (s e i j format : ℕ) (one other : TextFields) (next : Working → Result A Cause) (w : Working) (v : A) : Type 0 where

@@ -1,9 +1,7 @@
 -- The laws on selections from one text to another, wherever the two are.
-use Rattle.lx_blocks.specs.Ranges.{at_anchor, if_normal, lies, normal_at}
-use Rattle.lx_caret.proofs.Fit.{after_tells}
+use Rattle.lx_blocks.specs.Ranges.{at_anchor}
 use Rattle.lx_caret.specs.Deleting.{cluster_reach, delete_character_step, delete_word_step, word_reach}
 use Rattle.lx_caret.specs.Inserting.{broken, insert_line_break_step, insert_tab_step, insert_text_step, tabbed, typed}
-use Rattle.lx_caret.specs.Lying.{EachPoint}
 use Rattle.lx_caret.specs.Removing.{remove_text_step}
 use Rattle.lx_caret_laws.proofs.Across.{label_stays}
 use Rattle.lx_blocks.specs.Places.{covered}
@@ -13,11 +11,9 @@ use Rattle.lx_trees.specs.Siblings.{is_among}
 use Rattle.lx_caret_laws.proofs.ReadsOver.{allows_over, between_over}
 use Rattle.lx_caret_laws.proofs.SelectedOver.{AllOver, all_over, deleted_over}
 use Rattle.lx_caret_laws.proofs.PartedSpans.{parted_joined, parted_span}
-use Rattle.lx_caret_laws.proofs.Through.{Through, through}
+use Rattle.lx_caret_laws.proofs.Through.{through}
 use Rattle.lx_caret_laws.proofs.TypedAcross.{then_added}
 use Rattle.lx_caret_laws.proofs.TypedAll.{told-typing}
-use Rattle.lx_caret_laws.proofs.TypedOver.{normal_mode, removes_nothing}
-use Rattle.lx_caret_laws.specs.Carets.{IsSound}
 use Rattle.lx_caret_laws.specs.Reading.{ReadsBetween}
 use Rattle.lx_caret_laws.specs.Spans.{IsGoneOver, IsSelectedOver, IsTypedOverSpan, Removes, SpansGiveWay}
 use Rattle.lx_caret_laws.specs.Typing.{IsCaretAt, IsTyped}
@@ -28,16 +24,14 @@ use Rattle.lx_edit.specs.Edits.{text_point}
 use Rattle.lx_edit.specs.Texts.{has_no_text}
 use Rattle.lx_forest.proofs.Walks.{order_of-detached}
 use Rattle.lx_forest.specs.Forest.{Forest, Label}
-use Rattle.lx_forest.specs.Lookups.{IsForest, is_attached, label_of, order_of}
-use Rattle.lx_node.specs.Limits.{most_written}
+use Rattle.lx_forest.specs.Lookups.{IsForest, is_attached, order_of}
 use Rattle.lx_node.specs.declared.cause.Cause.{Cause}
-use Rattle.lx_node.specs.declared.cause.Point.{Point}
 use Rattle.lx_node.specs.declared.fields.TextFields.{TextFields}
 use Rattle.lx_node.specs.declared.kind.Kind.TheVariants as kinds
 use Rattle.lx_text.proofs.Places.{front-length, rest-end}
 use Rattle.lx_text.proofs.Told.{front-end}
 use Rattle.lx_text.specs.Texts.{front_of, rest_of, text_length}
-use Rattle.std.proofs.Common.{Bool, List, None, Ok, Result, Some, [], ap, append-nil, ap₂, arith, cond, inl, inr, subst, sym, true, ℕ, ◌&&◌, ◌++◌, ◌∙◌, ◌∷◌, ◌≡◌, ◌≢◌, ◌≤◌}
+use Rattle.std.proofs.Common.{Bool, List, None, Ok, Result, Some, [], ap, append-nil, ap₂, arith, cond, inl, inr, sym, true, ℕ, ◌&&◌, ◌++◌, ◌∙◌, ◌∷◌, ◌≡◌, ◌≢◌, ◌≤◌}
 use Rattle.std.proofs.lemmas.Bool.{cases_Bool}
 use Rattle.std.specs.Prelude.{is_some}
 use Rattle.std.specs.declared.cmp.Ordering.TheVariants as ordering
@@ -126,6 +120,8 @@ told-spans = record {
       (all_over s e i j format one other w v is (by_removing back s e i j format one other w v is done));
   joined = λ back a b s e i j format one other w v is blocks done.
       (all_over s e i j format one other w v is (by_removing back s e i j format one other w v is done)).joins a b blocks;
+  nested = λ back a b s e i j format one other w v is first_block last_block nested done.
+      (all_over s e i j format one other w v is (by_removing back s e i j format one other w v is done)).keeps a b first_block last_block nested;
   typed = λ new s e i j format one other w v is some done.
       added_over new (λ u. cond (has_no_text new) (Ok u) (at_anchor (typed new) u)) s e i j format one other w v is done
       (λ u caret again. told-typing.anywhere new (text_point s i) format u v caret some again);

@@ -1,4 +1,4 @@
--- What it means to remove what is selected from one text to another wherever the two are, or to type over it: in one block, in two
+-- What it means to remove what is selected from one text to another, or to type over it, wherever the two are: in one block, in two
 -- blocks, or in blocks of which one is in the other.
 use Rattle.std.specs.Prelude.{ℕ, ◌≡◌, ◌≢◌, ◌+◌, ◌++◌, ◌⊎◌, Bool, true, false, List, [], ◌∷◌, None, Some, Ok}
 use Rattle.std.specs.declared.cmp.Ordering.TheVariants.{Less}
@@ -72,6 +72,13 @@ pub record ArePartedOver (a b new first last from to : ℕ) (w v : Working) : Ty
   pub fresh : has new w.forest ≡ false
   pub aside : StaysAside first last w.forest v.forest
 
+-- each node that holds the first text alone reads its front, and each that holds the last alone its rest
+pub record KeepEnds (first last from to : ℕ) (w v : Working) : Type 0 where
+  pub front : (q : ℕ) → is_within w.forest q first ≡ true → is_within w.forest q last ≡ false
+      → read_in v.forest q ≡ front_of (place_in w.forest q (text_point first from)) (read_in w.forest q)
+  pub rest : (q : ℕ) → is_within w.forest q last ≡ true → is_within w.forest q first ≡ false
+      → read_in v.forest q ≡ rest_of (place_in w.forest q (text_point last to)) (read_in w.forest q)
+
 -- a command removed what was selected: to remove it, or to delete a character or a word while something is selected
 abbrev pub Removes : Bool → Working → Working → Type 0
 Removes back w v = (remove_text_step w ≡ Ok v) ⊎ ((delete_character_step back w ≡ Ok v) ⊎ (delete_word_step back w ≡ Ok v))
@@ -83,7 +90,7 @@ pub record IsTypedOverSpan (typed : List ℕ) (first last from to : ℕ) (one ot
   pub last_reads : ReadsNow v.forest last other (rest_of to other.text)
   pub caret : HasCaret first (from + text_length typed) one.format v
 
--- what is selected from one text to another goes when it is removed or deleted, and gives way to what is typed
+-- what is selected from one text to another goes when it is removed or deleted, and gives way to what is typed or inserted
 pub record SpansGiveWay : Type 0 where
   pub removed : (back : Bool) (first last from to format : ℕ) (one other : TextFields) (w v : Working)
       → IsSelectedOver first last from to format one other w → Removes back w v → IsGoneOver first last from to format one other w v
@@ -91,6 +98,10 @@ pub record SpansGiveWay : Type 0 where
   pub joined : (back : Bool) (a b first last from to format : ℕ) (one other : TextFields) (w v : Working)
       → IsSelectedOver first last from to format one other w → AreToJoin a b first last w → Removes back w v
       → AreJoined a b first last from to w v
+  -- and where one of the two blocks is in the other, or is the other, nothing is joined
+  pub nested : (back : Bool) (a b first last from to format : ℕ) (one other : TextFields) (w v : Working)
+      → IsSelectedOver first last from to format one other w → block_of w.forest first ≡ Some a → block_of w.forest last ≡ Some b
+      → (is_within w.forest a b ≡ true) ⊎ (is_within w.forest b a ≡ true) → Removes back w v → KeepEnds first last from to w v
   pub typed : (typed : List ℕ) (first last from to format : ℕ) (one other : TextFields) (w v : Working)
       → IsSelectedOver first last from to format one other w → typed ≢ [] → insert_text_step typed w ≡ Ok v
       → ReadsBetween (text_point first from) (text_point last to) typed w.forest v.forest

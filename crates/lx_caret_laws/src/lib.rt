@@ -11,15 +11,14 @@
 //! * What is selected from one text to another of the same parent goes when it is removed or deleted, and gives way to
 //!   what one types or to a new paragraph (`ranges_give_way`).
 //! * Wherever the two texts are, in one block or in two, what is selected from one to the other goes when it is removed or
-//!   deleted, and gives way to what one types. Where the two blocks are joined, the first reads its front and then the rest
-//!   of the last (`spans_give_way`).
+//!   deleted, and gives way to what one types or to a new paragraph. Where the two blocks are joined, the first reads its
+//!   front and then the rest of the last (`spans_give_way`).
 //! * What is selected in a text gets a format that the text didn't have, and loses one that it had. No other character's
 //!   format changes. A whole text that is formatted twice is as before (`formatting_is_exact`).
 //! * A paragraph that is inserted parts what is read in its block at the caret (`breaking_parts_text`).
 //! * Where one types, deletes or inserts a paragraph, all that the caret isn't in stays as it is.
 //!
-//! What a paragraph leaves in the place of a range from one parent to another isn't said, nor what is left where lines are
-//! joined.
+//! What is left where lines are joined at a caret isn't said.
 #![tactic(auto)]
 
 mod breaking;
