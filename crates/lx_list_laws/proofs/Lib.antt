@@ -22,6 +22,7 @@ pub mod ReadSound
 pub mod StayAhead
 pub mod StayBetween
 pub mod StayDissolved
+pub mod StayGone
 pub mod StayIndented
 pub mod StayKeys
 pub mod StayLines

@@ -54,6 +54,8 @@ use Rattle.lx_list_laws.proofs.ReadSound.{new_forest}
 use Rattle.lx_list_laws.proofs.ReadDissolved.{lines_of, among_lines, IsEmptied, may_say, top_stays, found_passes}
 use Rattle.lx_list_laws.proofs.StayKeys.{EachKey, each_same, same_new, same_take, same_before, same_each}
 use Rattle.lx_list_laws.proofs.StayUnder.{list_no_item, Under, under, Sends, keys_sent, may_stay, goes_alone}
+use Rattle.lx_list.specs.Lines.{if_there}
+use Rattle.lx_list_laws.proofs.StayGone.{Spared, parent_place, beside_place, list_up, spared_still}
 
 -- ---- a line becomes a paragraph
 
@@ -92,188 +94,93 @@ paragraph_fits list line w v fit place e =
 
 -- ---- where points are meanwhile
 
--- a node that doesn't go with a list of the forest before, and of its lines is one whose turn is still to come
-abbrev Waits : Forest → List ℕ → List ℕ → ℕ → Type 0
-Waits f lines ls q = (goes_with_list f q ≡ false) × (is_among q lines ≡ true → is_among q ls ≡ true)
+-- a node of a point meanwhile, by the forest before: in the list it doesn't go with it, and it is none of the lines but one
+-- whose turn is still to come; and nothing of lists around further lines
+record Waits (f : Forest) (list : ℕ) (ks ls : List ℕ) (q : ℕ) : Type 0 where
+  here : is_within f list q ≡ true → goes_with_list f q ≡ false
+  spared : Spared f ks q
+  turn : is_among q (lines_of f list) ≡ true → is_among q ls ≡ true
 
-new_waits : (f : Forest) (lines ls : List ℕ) (n : ℕ) → has n f ≡ false → ((q : ℕ) → is_among q lines ≡ true → has q f ≡ true) → Waits f lines ls n
-new_waits f lines ls n free there = (
-  grind (arith, free, there_at is_list f n, there_at is_item f n),
-  λ among. absurd (grind (arith, free, there n among)),
-)
+new_waits : (f : Forest) (list : ℕ) (ks ls : List ℕ) (n : ℕ) → has n f ≡ false → Waits f list ks ls n
+new_waits f list ks ls n free =
+    let none : goes_with_list f n ≡ false = grind (arith, free, there_at is_list f n, there_at is_item f n) in
+    record {
+      here = λ inside. none;
+      spared = λ line around among found inside. none;
+      turn = λ among. absurd (grind (arith, free, there_within f list n (grind (arith, among, among_lines f list n))));
+    }
 
-turn_waits : (f : Forest) (lines ls : List ℕ) (line n : ℕ) (x : Point) → Waits f lines ls n → Waits f lines (line ∷ ls) x.key
-    → Waits f lines ls (moved_to line (element_point n 0) x).key
+turn_waits : (f : Forest) (list : ℕ) (ks ls : List ℕ) (line n : ℕ) (x : Point) → Waits f list ks ls n → Waits f list ks (line ∷ ls) x.key
+    → Waits f list ks ls (moved_to line (element_point n 0) x).key
 unfolding moved_to
-turn_waits f lines ls line n x new so = elim (eqb_tells x.key line) [
+turn_waits f list ks ls line n x new so = elim (eqb_tells x.key line) [
   | inl own ↦ rw own.0 new
-  | inr other ↦ rw other.0 (so.0, λ among. grind (arith, so.1 among, other.0, eqb_tells line x.key, other.1))
+  | inr other ↦ rw other.0 (record {
+      here = so.here;
+      spared = so.spared;
+      turn = λ among. grind (arith, so.turn among, other.0, eqb_tells line x.key, other.1);
+    })
 ]
 
-line_keys : (f : Forest) (lines ls : List ℕ) (list line : ℕ) (w v : Working) → has w.next_key f ≡ false
-    → ((q : ℕ) → is_among q lines ≡ true → has q f ≡ true)
-    → paragraph_made list line w ≡ Ok v → EachKey (Waits f lines (line ∷ ls)) w → EachKey (Waits f lines ls) v
+line_keys : (f : Forest) (ks ls : List ℕ) (list line : ℕ) (w v : Working) → has w.next_key f ≡ false → paragraph_made list line w ≡ Ok v
+    → EachKey (Waits f list ks (line ∷ ls)) w → EachKey (Waits f list ks ls) v
 unfolding paragraph_made emptied_into
-line_keys f lines ls list line w v free there e each =
+line_keys f ks ls list line w v free e each =
     let n : ℕ = w.next_key in
     let a = first_part (new_step Paragraph plain_element w) (λ o. after (put_before_step n list o) (emptied_into n line)) v e in
     let b = first_part (put_before_step n list a.0) (emptied_into n line) v a.2 in
-    let W : ℕ → Type 0 = Waits f lines (line ∷ ls) in
+    let W : ℕ → Type 0 = Waits f list ks (line ∷ ls) in
     let put : EachKey W b.0 = each_same W w b.0 (same_before n list a.0 b.0 b.1 ∙ same_new Paragraph plain_element w a.0 a.1) each in
     let at : Working = pointed (moved_to line (element_point n 0)) b.0 in
-    let sent : EachKey (Waits f lines ls) at =
-    each_moved (λ x. W x.key) (λ x. Waits f lines ls x.key) (moved_to line (element_point n 0)) b.0.selection
-    (λ x so. turn_waits f lines ls line n x (new_waits f lines ls n free there) so) put in
-    each_same (Waits f lines ls) at v (same_each n (filter (is_at is_inline b.0.forest) (children_of b.0.forest line)) at v b.2) sent
+    let sent : EachKey (Waits f list ks ls) at =
+    each_moved (λ x. W x.key) (λ x. Waits f list ks ls x.key) (moved_to line (element_point n 0)) b.0.selection
+    (λ x so. turn_waits f list ks ls line n x (new_waits f list ks ls n free) so) put in
+    each_same (Waits f list ks ls) at v (same_each n (filter (is_at is_inline b.0.forest) (children_of b.0.forest line)) at v b.2) sent
 
 -- every line in its turn
-record AreTurned (f : Forest) (lines : List ℕ) (w v : Working) : Type 0 where
+record AreTurned (f : Forest) (list : ℕ) (ks : List ℕ) (w v : Working) : Type 0 where
   stays : Stays w v
-  keys : EachKey (Waits f lines []) v
+  keys : EachKey (Waits f list ks []) v
 
-lines_turned : (f : Forest) (lines ls : List ℕ) (list : ℕ) (w v : Working) → Fit w → is_attached w.forest list ≡ true → KindsStay f w.forest
-    → ((q : ℕ) → is_among q lines ≡ true → has q f ≡ true) → in_turn (paragraph_made list) ls w ≡ Ok v → EachKey (Waits f lines ls) w
-    → AreTurned f lines w v
+lines_turned : (f : Forest) (ks ls : List ℕ) (list : ℕ) (w v : Working) → Fit w → is_attached w.forest list ≡ true → KindsStay f w.forest
+    → in_turn (paragraph_made list) ls w ≡ Ok v → EachKey (Waits f list ks ls) w → AreTurned f list ks w v
 unfolding in_turn
-lines_turned f lines [] list w v fit place kinds there e each =
-    let is : w ≡ v = cc in subst (AreTurned f lines w) is (record { stays = stays_self w fit; keys = each })
-lines_turned f lines (line ∷ ls) list w v fit place kinds there e each =
+lines_turned f ks [] list w v fit place kinds e each =
+    let is : w ≡ v = cc in subst (AreTurned f list ks w) is (record { stays = stays_self w fit; keys = each })
+lines_turned f ks (line ∷ ls) list w v fit place kinds e each =
     let a = first_part (paragraph_made list line w) (in_turn (paragraph_made list) ls) v e in
     let one = paragraph_fits list line w a.0 fit place a.1 in
     let free : has w.next_key f ≡ false = grind (arith, has_still f w.forest kinds w.next_key, fit.ready.free w.next_key (omega arith)) in
-    let keys = line_keys f lines ls list line w a.0 free there a.1 each in
+    let keys = line_keys f ks ls list line w a.0 free a.1 each in
     let still : KindsStay f a.0.forest = record { each = λ q kind is. one.kept.each q kind (kinds.each q kind is) } in
-    let rest = lines_turned f lines ls list a.0 v one.fit (one.attached list place) still there a.2 keys in
+    let rest = lines_turned f ks ls list a.0 v one.fit (one.attached list place) still a.2 keys in
     record { stays = stays_then w a.0 v one rest.stays; keys = rest.keys }
 
--- ---- the list goes
-
-module _ (f g : Forest) (p list : ℕ) (m : IsEmptied f g p list) (none : is_at is_item f p ≡ false) where
-  f_order : IsForest f
-  f_order = m.all.told.before
-
-  g_order : IsForest g
-  g_order = m.all.told.behind
-
-  abbrev h : Forest
-  h = take_out list g
-
-  -- a node in the list on which a point may still be is the list
-  only_list : (q : ℕ) → Waits f (lines_of f list) [] q → Under f list q → q ≡ list
-  only_list q so u = elim (eqb_tells q list) [
-    | inl same ↦ same.1
-    | inr other ↦ elim (list_or_item f q u.listed) [
-      | inl is ↦ absurd (grind (arith, so.0, is, u.nested other.1 is))
-      | inr is ↦
-          let line : is_line f q ≡ true = grind (arith, so.0, is) in
-          let among : is_among q (lines_of f list) ≡ true = among_lines f list q ∙ ap₂ ◌&&◌ u.inside line in
-          absurd (grind (arith, so.1 among))
-    ]
+-- a node in the list on which a point may still be is the list
+only_list : (f : Forest) (list : ℕ) (ks : List ℕ) (q : ℕ) → Waits f list ks [] q → Under f list q → q ≡ list
+only_list f list ks q so u = elim (eqb_tells q list) [
+  | inl same ↦ same.1
+  | inr other ↦ elim (list_or_item f q u.listed) [
+    | inl is ↦ absurd (grind (arith, so.here u.inside, is, u.nested other.1 is))
+    | inr is ↦
+        let line : is_line f q ≡ true = grind (arith, so.here u.inside, is) in
+        let among : is_among q (lines_of f list) ≡ true = among_lines f list q ∙ ap₂ ◌&&◌ u.inside line in
+        absurd (grind (arith, so.turn among))
   ]
-
-  at_h : (test : Kind → Bool) (q : ℕ) → is_at test h q ≡ is_at test g q
-  at_h test q = ap (passes test) (kind_of-take_out list g q g_order)
-
-  item_h : (q : ℕ) → is_at is_item h q ≡ is_at is_item f q
-  item_h q = at_h is_item q ∙ m.all.item q
-
-  list_h : (q : ℕ) → is_at is_list h q ≡ is_at is_list f q
-  list_h q = at_h is_list q ∙ m.all.lists q
-
-  -- a child of an item was one
-  child_before : (q b : ℕ) → parent_of g q ≡ Some b → is_at is_item f b ≡ true → parent_of f q ≡ Some b
-  child_before q b up item =
-      let among : is_among q (children_of g b) ≡ true = child_of g b q g_order up in
-      let other : eqb b p ≡ false = grind (arith, item, none, eqb_tells b p) in
-      elim (cases_Bool (is_among b (lines_of f list))) [
-        | inl line ↦
-            let rest : (is_among q (children_of f b) && not (is_at is_inline f q)) ≡ true =
-            sym (is_among-filter (λ c. not (is_at is_inline f c)) q (children_of f b)) ∙ sym (ap (is_among q) (m.all.left b line)) ∙ among in
-            parent_here f b q f_order (grind (arith, rest))
-        | inr away ↦ parent_here f b q f_order (sym (ap (is_among q) (m.all.others b (there_at is_item f b item) other away)) ∙ among)
-      ]
-
-  item_above : (q : ℕ) (o : Option ℕ) → parent_of h q ≡ o → q ≢ list → is_in_item h o ≡ true → is_in_item f (parent_of f q) ≡ true
-  item_above q None up other is = absurd (cc)
-  item_above q (Some b) up other is =
-      let before : parent_of g q ≡ Some b = grind (arith, up, parent_of-take_out list g q g_order, other, eqb_tells q list) in
-      let item : is_at is_item f b ≡ true = sym (item_h b) ∙ is in
-      ap (is_in_item f) (child_before q b before item) ∙ item
-
-  -- the list is still below its parent
-  list_up : parent_of g list ≡ Some p
-  list_up =
-      parent_here g p list g_order
-      (ap (is_among list) m.all.here ∙ is_among-names_with (Some list) m.all.paragraphs (children_of f p) list
-      ∙ grind (arith, child_of f p list f_order m.up))
-
-  -- an item that isn't one of the list's lines has the children that it had
-  line_still : (q : ℕ) → is_at is_item f q ≡ true → is_among q (lines_of f list) ≡ false → is_line f q ≡ true → is_line h q ≡ true
-  line_still q item away line =
-      let other : eqb q p ≡ false = grind (arith, item, none, eqb_tells q p) in
-      let gone : is_among list (children_of g q) ≡ false = not_child g list p q g_order list_up (λ same. absurd (grind (arith, other, same, eqb_tells q p))) in
-      let same : children_of h q ≡ children_of f q =
-      children_of-take_out list g q g_order ∙ names_without-absent_list list (children_of g q) gone
-      ∙ m.all.others q (there_at is_item f q item) other away in
-      let some : list_any (is_at is_inline h) (children_of f q) ≡ list_any (is_at is_inline f) (children_of f q) =
-      any-same (is_at is_inline h) (is_at is_inline f) (children_of f q) (λ c among. at_h is_inline c ∙ m.all.inline c) in
-      let block : is_at is_text_block h q ≡ true = is_block_at h q (item_h q ∙ item) in
-      ap₂ ◌&&◌ block (ap (λ ks. eqb (length ks) 0 || list_any (is_at is_inline h) ks) same ∙ ap (λ b. eqb (size_of f q) 0 || b) some ∙ grind (arith, line))
-
-  -- a point that waits for nothing is at a place that goes with no list
-  place_still : (q : ℕ) → q ≢ list → Waits f (lines_of f list) [] q → goes_with_list h q ≡ false
-  place_still q other so =
-      let away : is_among q (lines_of f list) ≡ false = grind (arith, so.1) in
-      let nested : is_nested_list h q ≡ false = elim (cases_Bool (is_nested_list h q)) [
-        | inl is ↦
-            let above : is_in_item f (parent_of f q) ≡ true = item_above q (parent_of h q) refl other (grind (arith, is)) in
-            absurd (grind (arith, is, so.0, above, list_h q))
-        | inr is ↦ is
-      ] in
-      let lineless : is_lineless h q ≡ false = elim (cases_Bool (is_lineless h q)) [
-        | inl is ↦
-            let item : is_at is_item f q ≡ true = sym (item_h q) ∙ grind (arith, is) in
-            absurd (grind (arith, is, line_still q item away (grind (arith, so.0, item))))
-        | inr is ↦ is
-      ] in
-      grind (arith, nested, lineless)
-
-  -- its parent is no list, and so no item is beside it
-  no_list : is_at is_list f p ≡ false
-  no_list = elim (cases_Bool (is_at is_list f p)) [
-    | inl is ↦ absurd (grind (arith, item_below f p list m.held is m.up, so_at is_list is_item false list_no_item f list m.is_list))
-    | inr is ↦ is
-  ]
-
-  parent_place : goes_with_list h p ≡ false
-  parent_place = grind (arith, list_h p, item_h p, none, no_list)
-
-  parent_no_item : (o : Option ℕ) (same : Bool) → o ≡ cond same None (Some p) → is_in_item h o ≡ false
-  parent_no_item o true is = ap (is_in_item h) is
-  parent_no_item o false is = ap (is_in_item h) is ∙ item_h p ∙ none
-
-  beside_place : IsHeld may_hold g → (s : ℕ) → parent_of g s ≡ Some p → goes_with_list h s ≡ false
-  beside_place held s up =
-      let item : is_at is_item h s ≡ false = elim (cases_Bool (is_at is_item g s)) [
-        | inl is ↦ absurd (grind (arith, list_above g s p held is up, m.all.lists p, no_list))
-        | inr is ↦ at_h is_item s ∙ is
-      ] in
-      let nested : is_in_item h (parent_of h s) ≡ false =
-      parent_no_item (parent_of h s) (eqb s list) (parent_of-take_out list g s g_order ∙ ap (cond (eqb s list) None) up) in
-      grind (arith, item, nested)
+]
 
 -- ---- the whole
 
--- a draft on which a command goes on, and none of whose points goes with a list
-pub record Remains (w : Working) : Type 0 where
+-- a draft on which a command goes on, and none of whose points goes with a list around one of these lines
+pub record Remains (ks : List ℕ) (w : Working) : Type 0 where
   pub fit : Fit w
-  pub places : EachKey (λ q. goes_with_list w.forest q ≡ false) w
+  pub places : EachKey (Spared w.forest ks) w
 
-dissolved_remains : (list : ℕ) (w v : Working) → Remains w → is_attached w.forest list ≡ true → is_outermost w.forest list ≡ true
+dissolved_remains : (ks : List ℕ) (list line : ℕ) (w v : Working) → Remains (line ∷ ks) w → outermost_above w.forest line ≡ Some list → is_attached w.forest list ≡ true → is_outermost w.forest list ≡ true
     → dissolved list w ≡ Ok v
-    → Remains v
+    → Remains ks v
 unfolding dissolved
-dissolved_remains list w v r place outer e =
+dissolved_remains ks list line w v r found place outer e =
     let f : Forest = w.forest in
     let lines : List ℕ = lines_of f list in
     let sound : IsSound w = record { ready = r.fit.ready; held = r.fit.held } in
@@ -286,30 +193,45 @@ dissolved_remains list w v r place outer e =
     let may = may_say f p list r.fit.ready.in_order r.fit.held above.1 is in
     let said = are_said p list lines w a.0 sound may a.1 in
     let m : IsEmptied f g p list = record { held = r.fit.held; up = above.1; is_list = is; all = said.0 } in
-    let start : EachKey (Waits f lines lines) w =
-    each_still (λ x. goes_with_list f x.key ≡ false) (λ x. Waits f lines lines x.key) w.selection (λ x so. (so, λ among. among)) r.places in
-    let turned = lines_turned f lines lines list w a.0 r.fit place (record { each = λ q kind so. so }) may.there a.1 start in
+    let start : EachKey (Waits f list ks lines) w =
+    each_still (λ x. Spared f (line ∷ ks) x.key) (λ x. Waits f list ks lines x.key) w.selection (λ x so. record {
+      here = λ inside. so line list (grind (arith, eqb_tells line line)) found inside;
+      spared = λ k around among. so k around (grind (arith, among));
+      turn = λ among. among;
+    }) r.places in
+    let turned = lines_turned f ks lines list w a.0 r.fit place (record { each = λ q kind so. so }) a.1 start in
+    let only : (q : ℕ) → Waits f list ks [] q → is_within g list q ≡ true → q ≡ list = λ q so inside. only_list f list ks q so (under f g p list m q inside) in
     let clear : IsClear list a.0 =
-    each_still (λ x. Waits f lines [] x.key) (λ x. is_within g list x.key ≡ true → x.key ≡ list) a.0.selection
-    (λ x so inside. only_list f g p list m none x.key so (under f g p list m x.key inside)) turned.keys in
+    each_still (λ x. Waits f list ks [] x.key) (λ x. is_within g list x.key ≡ true → x.key ≡ list) a.0.selection (λ x so. only x.key so) turned.keys in
     let held : IsHeld may_hold g = turned.stays.fit.held in
     let up : parent_of g list ≡ Some p = list_up f g p list m none in
     let order : IsForest g = turned.stays.fit.ready.in_order in
     let alone : take_step list (sent_away list a.0) ≡ Ok v =
     goes_alone list p a.0 v order up (may_stay g list p held up (said.0.lists list ∙ is) (said.0.item p ∙ none)) a.2 in
-    let P : ℕ → Type 0 = λ q. goes_with_list (take_out list g) q ≡ false in
+    let P : ℕ → Type 0 = Spared (take_out list g) ks in
     let sent : EachKey P (sent_away list a.0) =
     keys_sent P list p a.0 order up
-    (each_still (λ x. Waits f lines [] x.key) (λ x. Sends P g list p x.key) a.0.selection (λ x so. record {
-      here = λ same. (parent_place f g p list m none, beside_place f g p list m none held);
-      away = λ other. place_still f g p list m none x.key other so;
+    (each_still (λ x. Waits f list ks [] x.key) (λ x. Sends P g list p x.key) a.0.selection (λ x so. record {
+      here = λ same. (
+        λ k around among found inside. parent_place f g p list m none,
+        λ s s_up k around among found inside. beside_place f g p list m none held s s_up,
+      );
+      away = λ other. spared_still f g p list m none ks x.key other (only x.key so) (grind (arith, so.turn)) so.spared;
     }) turned.keys) in
     let same : take_out list g ≡ v.forest = sym (taken-forest list (sent_away list a.0) v alone ∙ ap (take_out list) (sent_away-forest list a.0)) in
     let taken : EachKey P v = each_same P (sent_away list a.0) v (same_take list (sent_away list a.0) v alone) sent in
     record {
       fit = remove_fits list a.0 v turned.stays.fit clear a.2;
-      places = subst (λ (x : Forest). EachKey (λ q. goes_with_list x q ≡ false) v) same taken;
+      places = subst (λ (x : Forest). EachKey (Spared x ks) v) same taken;
     }
+
+-- a line that is passed over
+passed : (ks : List ℕ) (line : ℕ) (w : Working) → Remains (line ∷ ks) w → Remains ks w
+passed ks line w r = record {
+  fit = r.fit;
+  places = each_still (λ x. Spared w.forest (line ∷ ks) x.key) (λ x. Spared w.forest ks x.key) w.selection
+      (λ x so k around among. so k around (grind (arith, among))) r.places;
+}
 
 list_there : (f : Forest) (line list : ℕ) → IsForest f → is_attached f line ≡ true → outermost_above f line ≡ Some list → is_attached f list ≡ true
 list_there f line list h there found =
@@ -318,11 +240,23 @@ list_there f line list h there found =
     ∙ more_among line list (ancestors f line) (found_among (is_outermost f) (ancestors f line) list found))
 
 -- the list around a line of the tree
-pub around_remains : (line : ℕ) (w v : Working) → Remains w → is_attached w.forest line ≡ true → dissolved_around line w ≡ Ok v → Remains v
+around_remains : (ks : List ℕ) (line : ℕ) (w v : Working) → Remains (line ∷ ks) w → is_attached w.forest line ≡ true → dissolved_around line w ≡ Ok v
+    → Remains ks v
 unfolding dissolved_around
-around_remains line w v r there e = elim (cases_option (outermost_above w.forest line)) [
-  | inl none ↦ subst Remains (was_same w v (rw none at e)) r
+around_remains ks line w v r there e = elim (cases_option (outermost_above w.forest line)) [
+  | inl none ↦ subst (Remains ks) (was_same w v (rw none at e)) (passed ks line w r)
   | inr (list, found) ↦
-      dissolved_remains list w v r (list_there w.forest line list r.fit.ready.in_order there found)
+      dissolved_remains ks list line w v r found (list_there w.forest line list r.fit.ready.in_order there found)
       (found_passes (is_outermost w.forest) (ancestors w.forest line) list found) (rw found at e)
 ]
+
+-- every line in its turn
+pub lines_remain : (ks : List ℕ) (w v : Working) → Remains ks w → in_turn (if_there dissolved_around) ks w ≡ Ok v → Fit v
+unfolding in_turn
+lines_remain [] w v r e = subst Fit (was_same w v e) r.fit
+lines_remain (line ∷ ks) w v r e =
+    let a = first_part (if_there dissolved_around line w) (in_turn (if_there dissolved_around) ks) v e in
+    lines_remain ks a.0 v (by_test a.0 (is_attached w.forest line) refl a.1) a.2 where
+      by_test : (u : Working) (b : Bool) → is_attached w.forest line ≡ b → cond b (dissolved_around line w) (Ok w) ≡ Ok u → Remains ks u
+      by_test u true there so = around_remains ks line w u r there so
+      by_test u false out so = subst (Remains ks) (was_same w u so) (passed ks line w r)
