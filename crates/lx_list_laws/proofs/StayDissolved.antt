@@ -1,14 +1,11 @@
 -- A list that is removed leaves each point of a range in the tree, where none is on a node that goes with it.
-use Rattle.std.proofs.Common.{◌≡◌, ◌≢◌, ◌∙◌, ℕ, Bool, true, false, cond, eqb, not, ◌&&◌, ◌||◌, List, [], ◌∷◌, length, Option, None, Some, Ok, refl, sym, ap, ap₂, subst, arith, inl, inr}
+use Rattle.std.proofs.Common.{◌≡◌, ◌∙◌, ℕ, Bool, true, false, cond, ◌&&◌, List, [], ◌∷◌, Some, Ok, refl, sym, ap, ap₂, subst, arith, inl, inr}
 use Rattle.std.specs.Prelude.{option_map}
-use Rattle.std.specs.List.{filter, list_any}
-use Rattle.std.proofs.lemmas.Bool.{cases_Bool}
+use Rattle.std.specs.List.{filter}
 use Rattle.std.proofs.lemmas.Bool.Decides.{eqb_tells}
 use Rattle.lx_trees.specs.Siblings.{is_among}
-use Rattle.lx_trees.proofs.Siblings.{is_among-names_with, names_without-absent_list}
-use Rattle.lx_node.specs.Kinds.{may_hold, is_inline, is_item, is_list, is_element, is_text_block}
+use Rattle.lx_node.specs.Kinds.{may_hold, is_inline, is_item, is_list, is_element}
 use Rattle.lx_node.specs.Plain.{plain_element}
-use Rattle.lx_node.specs.declared.kind.Kind.{Kind}
 use Rattle.lx_node.specs.declared.kind.Kind.TheVariants.{Paragraph}
 use Rattle.lx_node.specs.declared.cause.Point.{Point}
 use Rattle.lx_node.specs.declared.cause.PointKind.TheVariants as point
@@ -16,11 +13,10 @@ use Rattle.lx_select.specs.Rules.{moved_to}
 use Rattle.lx_forest.specs.Forest.{Forest}
 use Rattle.lx_forest.specs.Lookups.{has, kind_of, parent_of, children_of, size_of, ancestors, is_within, is_attached, IsForest, IsHeld}
 use Rattle.lx_forest.specs.Edits.{take_out}
-use Rattle.lx_forest.proofs.Lookups.{kind_of-take_out, kind_of-with_new, parent_of-take_out, children_of-take_out}
+use Rattle.lx_forest.proofs.Lookups.{kind_of-with_new}
 use Rattle.lx_forest.proofs.Up.{attached_above}
 use Rattle.lx_forest.proofs.Walks.{cases_option}
 use Rattle.lx_forest.proofs.Within.{is_within-ancestors}
-use Rattle.lx_links.proofs.Detached.{is_among-filter}
 use Rattle.lx_links.proofs.Ordered.{there_within}
 use Rattle.lx_draft.specs.Working.{Working}
 use Rattle.lx_draft.specs.Covering.{KindsStay}
@@ -28,13 +24,11 @@ use Rattle.lx_draft.specs.Faults.{after}
 use Rattle.lx_draft.specs.Selecting.{is_counted_in}
 use Rattle.lx_draft.specs.Steps.{new_step, take_step}
 use Rattle.lx_draft.specs.Beside.{put_before_step}
-use Rattle.lx_draft.proofs.Gaps.{parent_here, child_of}
 use Rattle.lx_edit.specs.InTurn.{in_turn}
 use Rattle.lx_edit.specs.Edits.{pointed, element_point, sent_away, remove_step}
 use Rattle.lx_edit.proofs.Climbed.{first_part, taken-forest, sent_away-forest}
 use Rattle.lx_edit_laws.proofs.WrapSteps.{was_same}
-use Rattle.lx_edit_laws.proofs.WrapTrees.{not_child}
-use Rattle.lx_blocks.specs.Blocks.{passes, is_at, is_line}
+use Rattle.lx_blocks.specs.Blocks.{is_at, is_line}
 use Rattle.lx_blocks.specs.Ranges.{lies}
 use Rattle.lx_blocks.proofs.Blocked.{found_among, more_among}
 use Rattle.lx_caret.proofs.Fit.{each_moved, each_still, Fit, Stays, stays_self, stays_then, stays_new, stays_pointed}
@@ -42,18 +36,15 @@ use Rattle.lx_caret.proofs.Lies.{least}
 use Rattle.lx_caret.proofs.Moves.{stays_before, put_before_in, stays_each_moved}
 use Rattle.lx_caret.proofs.Removes.{IsClear, remove_fits}
 use Rattle.lx_list.specs.Dissolving.{emptied_into, paragraph_made, dissolved, is_in_item, is_outermost, outermost_above, dissolved_around}
-use Rattle.lx_list.proofs.Above.{list_above}
-use Rattle.lx_list.proofs.Itemless.{item_below, there_at}
+use Rattle.lx_list.proofs.Itemless.{there_at}
 use Rattle.lx_list_laws.specs.Reading.{IsSound}
-use Rattle.lx_list_laws.specs.Staying.{is_nested_list, is_lineless, goes_with_list}
-use Rattle.lx_list_laws.proofs.ReadEdits.{so_at}
-use Rattle.lx_list_laws.proofs.ReadLines.{list_or_item, is_block_at}
-use Rattle.lx_list_laws.proofs.ReadOrder.{any-same}
+use Rattle.lx_list_laws.specs.Staying.{goes_with_list}
+use Rattle.lx_list_laws.proofs.ReadLines.{list_or_item}
 use Rattle.lx_list_laws.proofs.ReadSaid.{has_still, are_said}
 use Rattle.lx_list_laws.proofs.ReadSound.{new_forest}
 use Rattle.lx_list_laws.proofs.ReadDissolved.{lines_of, among_lines, IsEmptied, may_say, top_stays, found_passes}
 use Rattle.lx_list_laws.proofs.StayKeys.{EachKey, each_same, same_new, same_take, same_before, same_each}
-use Rattle.lx_list_laws.proofs.StayUnder.{list_no_item, Under, under, Sends, keys_sent, may_stay, goes_alone}
+use Rattle.lx_list_laws.proofs.StayUnder.{Under, under, Sends, keys_sent, may_stay, goes_alone}
 use Rattle.lx_list.specs.Lines.{if_there}
 use Rattle.lx_list_laws.proofs.StayGone.{Spared, parent_place, beside_place, list_up, spared_still}
 
@@ -116,10 +107,10 @@ unfolding moved_to
 turn_waits f list ks ls line n x new so = elim (eqb_tells x.key line) [
   | inl own ↦ rw own.0 new
   | inr other ↦ rw other.0 (record {
-      here = so.here;
-      spared = so.spared;
-      turn = λ among. grind (arith, so.turn among, other.0, eqb_tells line x.key, other.1);
-    })
+    here = so.here;
+    spared = so.spared;
+    turn = λ among. grind (arith, so.turn among, other.0, eqb_tells line x.key, other.1);
+  })
 ]
 
 line_keys : (f : Forest) (ks ls : List ℕ) (list line : ℕ) (w v : Working) → has w.next_key f ≡ false → paragraph_made list line w ≡ Ok v
@@ -176,9 +167,8 @@ pub record Remains (ks : List ℕ) (w : Working) : Type 0 where
   pub fit : Fit w
   pub places : EachKey (Spared w.forest ks) w
 
-dissolved_remains : (ks : List ℕ) (list line : ℕ) (w v : Working) → Remains (line ∷ ks) w → outermost_above w.forest line ≡ Some list → is_attached w.forest list ≡ true → is_outermost w.forest list ≡ true
-    → dissolved list w ≡ Ok v
-    → Remains ks v
+dissolved_remains : (ks : List ℕ) (list line : ℕ) (w v : Working) → Remains (line ∷ ks) w → outermost_above w.forest line ≡ Some list
+    → is_attached w.forest list ≡ true → is_outermost w.forest list ≡ true → dissolved list w ≡ Ok v → Remains ks v
 unfolding dissolved
 dissolved_remains ks list line w v r found place outer e =
     let f : Forest = w.forest in

@@ -26,7 +26,7 @@ use Rattle.lx_list.specs.Indenting.{indented, indent_step}
 use Rattle.lx_list_laws.specs.Staying.{goes_with_list, is_in_tree, is_in_list_around, lines_of_range, lines_in, LeavesFrom, SelectionsStay}
 use Rattle.lx_list_laws.proofs.StayAhead.{Outside}
 use Rattle.lx_list_laws.proofs.StayBetween.{Ahead}
-use Rattle.lx_list_laws.proofs.StayDissolved.{Remains, lines_remain}
+use Rattle.lx_list_laws.proofs.StayDissolved.{lines_remain}
 use Rattle.lx_list_laws.proofs.StayGone.{Spared}
 use Rattle.lx_list_laws.proofs.StayKeys.{EachKey}
 use Rattle.lx_list_laws.proofs.StayLines.{each_line_keeps}

@@ -53,7 +53,7 @@ lines_in w = lines_of_range w.forest (range_of w)
 
 -- ---- an item goes a level deeper
 
--- a node isn't the list with which the item above it begins, if that begins with one
+-- whether a node, given what it is below, is in an item that begins with a list, and isn't that list
 abbrev pub is_further_in : Forest → Option ℕ → ℕ → Bool
 is_further_in f None k = false
 is_further_in f (Some item) k = is_at is_item f item && (is_nesting f item && not (is_named (first_child f item) k))
