@@ -1,55 +1,39 @@
 -- A paragraph that is inserted: what is read in the block of the caret, and in the new one.
-use Rattle.lx_blocks.specs.Blocks.{block_of, is_at, passes}
-use Rattle.lx_blocks.specs.Places.{until}
-use Rattle.lx_blocks.specs.Ranges.{at_anchor, at_anchor_of, caret_at, lies}
-use Rattle.lx_caret.proofs.Fit.{after_tells}
-use Rattle.lx_caret.specs.Paragraphs.{Broken, block_cut, block_in, cut_open, draft_left, empty_item, if_empty_item, insert_paragraph_step, moved_on, new_next, next_of_kind, paragraph_at, parted_up, place_of, start_of_first}
-use Rattle.lx_caret.specs.Removing.{remove_text_step}
-use Rattle.lx_caret_laws.proofs.AtCaret.{at_caret}
-use Rattle.lx_caret_laws.proofs.BrokenParts.{among_drop, among_take, kept_take, once_drop, read_ahead, read_more}
+use Rattle.lx_blocks.specs.Ranges.{lies}
+use Rattle.lx_caret.specs.Paragraphs.{place_of}
+use Rattle.lx_caret_laws.proofs.BrokenParts.{among_drop, among_take, kept_take, read_ahead, read_more}
 use Rattle.lx_caret_laws.proofs.EditedIn.{place_leaf}
 use Rattle.lx_caret_laws.proofs.InPlace.{OnlyAt, apart_children, below_parent, place-level, read_elsewhere}
-use Rattle.lx_caret_laws.proofs.Opened.{IsOpened, cut_tells, no_element_at}
-use Rattle.lx_caret_laws.proofs.Placed.{IsBeside, label_new, put_after}
+use Rattle.lx_caret_laws.proofs.Opened.{IsOpened, no_element_at}
+use Rattle.lx_caret_laws.proofs.Placed.{IsBeside, label_new}
 use Rattle.lx_caret_laws.proofs.ReadLevels.{read-leaf, read-level, reads-in_place, reads-same}
 use Rattle.lx_caret_laws.proofs.TypedNew.{has_label, parts_read, said_label}
-use Rattle.lx_caret_laws.specs.Breaking.{BreakingPartsText, IsBroken, IsPartedAt}
+use Rattle.lx_caret_laws.specs.Breaking.{IsPartedAt}
 use Rattle.lx_caret_laws.specs.Carets.{IsSound}
 use Rattle.lx_caret_laws.specs.Reading.{place_along, place_in, read_in, reads_in, said, said_by}
 use Rattle.lx_caret.proofs.Parents.{no_children}
 use Rattle.lx_draft.proofs.Gaps.{parent_here}
-use Rattle.lx_draft.proofs.Touched.{is_some-kind_of}
-use Rattle.lx_draft.specs.Beside.{put_behind_step}
-use Rattle.lx_draft.specs.Faults.{after}
-use Rattle.lx_draft.specs.Steps.{new_step}
 use Rattle.lx_draft.specs.Working.{Working}
-use Rattle.lx_edit.specs.Edits.{moved_to_end, text_point}
-use Rattle.lx_edit.specs.InTurn.{in_turn}
+use Rattle.lx_edit.specs.Edits.{text_point}
 use Rattle.lx_edit_laws.proofs.Reading.{spread}
-use Rattle.lx_edit_laws.proofs.WrapSteps.{was_same}
-use Rattle.lx_edit_laws.proofs.WrapTurns.{WentOver, went_over}
+use Rattle.lx_edit_laws.proofs.WrapTurns.{WentOver}
 use Rattle.lx_edit_laws.specs.Reading.{in_place_of}
 use Rattle.lx_forest.proofs.Lookups.{NoRepeats-children_of, has-child, has-parent_of, is_among-children_of, parent_of-self}
-use Rattle.lx_forest.proofs.Walks.{ancestors-step}
 use Rattle.lx_forest.proofs.Within.{is_within-parent, is_within-self, is_within-trans}
-use Rattle.lx_forest.specs.Forest.{Forest, Label}
-use Rattle.lx_forest.specs.Lookups.{IsForest, ancestors, children_below, children_of, has, index_of, is_within, keys_within, kind_of, label_of, parent_of, size_of}
-use Rattle.lx_node.specs.Kinds.{is_element, is_item, is_text_block}
-use Rattle.lx_node.specs.declared.cause.Cause.{Cause}
+use Rattle.lx_forest.specs.Forest.{Forest}
+use Rattle.lx_forest.specs.Lookups.{IsForest, children_of, has, is_within, keys_within, label_of, parent_of}
 use Rattle.lx_node.specs.declared.cause.Point.{Point}
 use Rattle.lx_node.specs.declared.fields.Fields.{Fields}
-use Rattle.lx_node.specs.declared.kind.Kind.TheVariants as kinds
 use Rattle.lx_node.specs.declared.kind.Kind.{Kind}
 use Rattle.lx_text.proofs.Places.{length-append}
 use Rattle.lx_text.proofs.Told.{front_at, offset_at, rest_at}
 use Rattle.lx_text.specs.Texts.{text_length}
-use Rattle.lx_trees.proofs.Siblings.{is_some-index_in}
 use Rattle.lx_trees.specs.Siblings.{index_in, is_among}
-use Rattle.std.proofs.Common.{Bool, Err, List, None, Ok, Option, Result, Some, [], add-one, ap, append_assoc, ap₂, arith, cond, eqb, false, inl, inr, length, not, refl, subst, suc, sym, true, ℕ, ◌&&◌, ◌++◌, ◌+◌, ◌∙◌, ◌∷◌, ◌≡◌, ◌≢◌}
+use Rattle.std.proofs.Common.{List, Some, [], add-one, ap, append_assoc, ap₂, arith, cond, false, inl, inr, not, refl, subst, suc, sym, true, ℕ, ◌++◌, ◌+◌, ◌∙◌, ◌∷◌, ◌≡◌, ◌≢◌}
 use Rattle.std.proofs.lemmas.Bool.Decides.{eqb_tells}
 use Rattle.std.proofs.lemmas.Bool.{cases_Bool}
 use Rattle.std.specs.List.{filter}
-use Rattle.std.specs.Prelude.{drop, find, is_some, take}
+use Rattle.std.specs.Prelude.{drop, take}
 
 -- ---- once the text is parted
 
@@ -215,7 +199,7 @@ module _ (block k at : ℕ) (rest : List ℕ) (w s : Working) (sound : IsSound w
     left =
         over.left ∙ ap (filter (λ q. not (is_among q (drop j cs)))) put_block ∙ kept_take j cs (NoRepeats-children_of s.forest block sh)
 
-    went : children_of v.forest n ≡ drop j cs
+    pub went : children_of v.forest n ≡ drop j cs
     went = over.there ∙ ap (λ ys. ys ++ drop j cs) b.bare
 
     abbrev front : List ℕ
@@ -294,159 +278,3 @@ module _ (block k at : ℕ) (rest : List ℕ) (w s : Working) (sound : IsSound w
       order = new_order;
       aside = record { each = λ q so out again. (label_aside q so out, children_aside q so out) };
     }
-
--- ---- the steps
-
--- the new block is made with some kind and fields
-record IsMade (s m : Working) : Type 0 where
-  kind : Kind
-  fields : Fields
-  made : new_step kind fields s ≡ Ok m
-
-made_next : (s m : Working) (block : ℕ) (moved : List ℕ) → has block s.forest ≡ true → new_next s.forest (label_of s.forest block) moved s ≡ Ok m
-    → IsMade s m
-made_next s m block moved so e = by_label (label_of s.forest block) refl e where
-  by_label : (l : Option Label) → label_of s.forest block ≡ l → new_next s.forest l moved s ≡ Ok m → IsMade s m
-  by_label None is e = absurd (grind (arith, so, is, is_some-kind_of s.forest block))
-  by_label (Some l) is e = record {
-    kind = (next_of_kind s.forest l moved l.kind).kind;
-    fields = (next_of_kind s.forest l moved l.kind).fields;
-    made = e;
-  }
-
--- where the caret is set at last doesn't matter
-parted_then : (place block new k : ℕ) (w u v : Working) (caret : Point) → ◌≡◌ {A = Result Working Cause} (Ok (caret_at caret u)) (Ok v)
-    → IsPartedAt place block new k w u → IsPartedAt place block new k w v
-parted_then place block new k w u v caret e i =
-    subst (IsPartedAt place block new k w) (was_same (caret_at caret u) v e)
-    (record { inside = i.inside; before = i.before; behind = i.behind; fresh = i.fresh; order = i.order; aside = i.aside })
-
-moved_parted : (block k at : ℕ) (rest : List ℕ) (w s v : Working) (i : ℕ) → IsSound w → lies w.forest (text_point k at) ≡ true
-    → parent_of w.forest k ≡ Some block
-    → IsOpened k at rest w s → index_in (children_of s.forest block) k ≡ Some i
-    → moved_on block (drop (place_of (Some i) at) (children_of s.forest block)) s ≡ Ok v
-    → IsPartedAt (place_in w.forest block (text_point k at)) block s.next_key k w v
-unfolding moved_on
-moved_parted block k at rest w s v i sound place up o is e =
-    let n : ℕ = s.next_key in
-    let cs : List ℕ = children_of s.forest block in
-    let moved : List ℕ = drop (place_of (Some i) at) cs in
-    let sh : IsForest s.forest = o.stay.ready.in_order in
-    let there : has block s.forest ≡ true = has-parent_of s.forest k block (o.stay.parents k (has-child w.forest k block up) ∙ up) in
-    let one = after_tells (new_next s.forest (label_of s.forest block) moved s)
-    (λ made. after (put_behind_step n block made) (λ put. after (in_turn (moved_to_end n) moved put)
-    (λ v. Ok (caret_at (start_of_first v.forest n moved) v)))) v e in
-    let two = after_tells (put_behind_step n block one.0)
-    (λ put. after (in_turn (moved_to_end n) moved put) (λ v. Ok (caret_at (start_of_first v.forest n moved) v))) v one.1.1 in
-    let three = after_tells (in_turn (moved_to_end n) moved two.0) (λ v. Ok (caret_at (start_of_first v.forest n moved) v)) v two.1.1 in
-    let made = made_next s one.0 block moved there one.1.0 in
-    let b = put_after made.kind made.fields block s one.0 two.0 o.stay.ready made.made two.1.0 in
-    let apart : block ≢ b.parent = λ e. absurd (grind (arith, e, b.up, parent_of-self s.forest block sh, eqb_tells block block)) in
-    let two_apart : block ≢ n = λ e. absurd (grind (arith, there, e, o.stay.ready.free n (omega arith))) in
-    let ups : (c : ℕ) → is_among c moved ≡ true → parent_of two.0.forest c ≡ Some block =
-    λ c among. parent_here two.0.forest block c b.ordered (ap (is_among c) (b.children block apart) ∙ among_drop (place_of (Some i) at) cs c among) in
-    let over = went_over block n moved two.0 three.0 b.ordered two_apart
-    (once_drop (place_of (Some i) at) cs (NoRepeats-children_of s.forest block sh)) ups three.1.0 in
-    parted_then (place_in w.forest block (text_point k at)) block n k w three.0 v (start_of_first three.0.forest n moved) three.1.1
-    (are_parted block k at rest w s sound place up o n i made.kind made.fields two.0 three.0 is refl b over)
-
--- ---- the command
-
--- the block of a text or tab right below it
-block_here : (f : Forest) (k block : ℕ) → IsForest f → parent_of f k ≡ Some block → is_at is_element f k ≡ false → is_at is_text_block f block ≡ true
-    → block_of f k ≡ Some block
-unfolding is_text_block is_element
-block_here f k block h up leaf kind =
-    let off : is_at is_text_block f k ≡ false = no_block (kind_of f k) leaf in
-    ap (λ ks. find (is_at is_text_block f) (k ∷ ks)) (ancestors-step f k block h up)
-    ∙ ap (λ t. cond t (Some k) (cond (is_at is_text_block f block) (Some block) (find (is_at is_text_block f) (ancestors f block)))) off
-    ∙ ap (λ t. cond t (Some block) (find (is_at is_text_block f) (ancestors f block))) kind where
-      no_block : (o : Option Kind) → passes is_element o ≡ false → passes is_text_block o ≡ false
-      no_block None e = refl
-      no_block (Some kinds.Text) e = refl
-      no_block (Some kinds.Tab) e = refl
-      no_block (Some kinds.Break) e = refl
-      no_block (Some kinds.Rule) e = refl
-      no_block (Some kinds.Embed) e = refl
-      no_block (Some kind) e = absurd (cc)
-
-pub left_tells : (r : Result Broken Cause) (v : Working) → draft_left r ≡ Ok v → (b : Broken) × ((r ≡ Ok b) × (b.draft ≡ v))
-left_tells (Ok b) v e = let same : b.draft ≡ v = was_same b.draft v e in (b, (refl, same))
-left_tells (Err c) v e = absurd (cc)
-
--- nothing is parted above the block's own child
-not_parted : (f : Forest) (k block : ℕ) → IsForest f → parent_of f k ≡ Some block → until (Some block) (ancestors f k) ≡ []
-not_parted f k block h up =
-    let own : eqb block block ≡ true = grind (arith, eqb_tells block block) in
-    ap (until (Some block)) (ancestors-step f k block h up) ∙ ap (λ t. cond t [] (block ∷ until (Some block) (ancestors f block))) own
-
-cut_parted : (block k at : ℕ) (w v : Working) → IsSound w → lies w.forest (text_point k at) ≡ true → parent_of w.forest k ≡ Some block
-    → block_cut block (text_point k at) w ≡ Ok v → (new : ℕ) × IsPartedAt (place_in w.forest block (text_point k at)) block new k w v
-unfolding block_cut parted_up
-cut_parted block k at w v sound place up e =
-    let p : Point = text_point k at in
-    let one = after_tells (cut_open p w) (λ u. after (parted_up (until (Some block) (ancestors u.forest k)) (place_of (index_of u.forest k) at) u)
-    (λ parted. moved_on block (drop parted.index (children_of parted.draft.forest block)) parted.draft)) v e in
-    let s : Working = one.0 in
-    let o = cut_tells k at w s sound place one.1.0 in
-    let sh : IsForest s.forest = o.1.stay.ready.in_order in
-    let up_s : parent_of s.forest k ≡ Some block = o.1.stay.parents k (has-child w.forest k block up) ∙ up in
-    let whole : after (parted_up [] (place_of (index_of s.forest k) at) s)
-    (λ parted. moved_on block (drop parted.index (children_of parted.draft.forest block)) parted.draft) ≡ Ok v =
-    ap (λ ks. after (parted_up ks (place_of (index_of s.forest k) at) s)
-    (λ parted. moved_on block (drop parted.index (children_of parted.draft.forest block)) parted.draft))
-    (sym (not_parted s.forest k block sh up_s)) ∙ one.1.1 in
-    let index_is : index_of s.forest k ≡ index_in (children_of s.forest block) k = ap (λ q. index_in (children_below s.forest q) k) up_s in
-    let among : is_among k (children_of s.forest block) ≡ true =
-    grind (arith, is_among-children_of s.forest k block sh, up_s, eqb_tells block block) in
-    by_index s o.0 o.1 (index_in (children_of s.forest block) k) refl (is_some-index_in (children_of s.forest block) k ∙ among)
-    (ap (λ q. moved_on block (drop (place_of q at) (children_of s.forest block)) s) (sym index_is) ∙ whole) where
-      by_index : (s : Working) (rest : List ℕ) → IsOpened k at rest w s → (q : Option ℕ) → index_in (children_of s.forest block) k ≡ q
-          → is_some q ≡ true
-          → moved_on block (drop (place_of q at) (children_of s.forest block)) s ≡ Ok v
-          → (new : ℕ) × IsPartedAt (place_in w.forest block (text_point k at)) block new k w v
-      by_index s rest o None is some e = absurd (cc)
-      by_index s rest o (Some i) is some e = (s.next_key, moved_parted block k at rest w s v i sound place up o is e)
-
-break_parted : (block k at format : ℕ) (w v : Working) → IsBroken block k at format w v
-    → (new : ℕ) × IsPartedAt (place_in w.forest block (text_point k at)) block new k w v
-unfolding insert_paragraph_step
-break_parted block k at format w v is =
-    let p : Point = text_point k at in
-    let h : IsForest w.forest = is.sound.ready.in_order in
-    let left = left_tells (insert_paragraph_step w) v is.done in
-    let one = after_tells (remove_text_step w) (λ u. after (at_anchor (λ p format. paragraph_at (empty_item u) (block_of u.forest p.key) p) u)
-    (λ x. Ok (record { draft = x; item = empty_item u }))) left.0 left.1.0 in
-    let caret = at_caret p format w one.0 is.caret one.1.0 in
-    let next : after (at_anchor (λ p format. paragraph_at (empty_item w) (block_of w.forest p.key) p) w)
-    (λ x. Ok (record { draft = x; item = empty_item w })) ≡ Ok left.0 =
-    ap (λ u. after (at_anchor (λ p format. paragraph_at (empty_item u) (block_of u.forest p.key) p) u)
-    (λ x. Ok (record { draft = x; item = empty_item u })))
-    caret.1 ∙ one.1.1 in
-    let two = after_tells (at_anchor (λ p format. paragraph_at (empty_item w) (block_of w.forest p.key) p) w)
-    (λ x. Ok (record { draft = x; item = empty_item w })) left.0 next in
-    let place = caret.0.anchor in
-    let block_is : block_of w.forest k ≡ Some block = block_here w.forest k block h is.up (no_element_at w.forest k at place) is.kind in
-    let full : eqb (size_of w.forest block) 0 ≡ false =
-    not_empty (children_of w.forest block) k (grind (arith, is_among-children_of w.forest k block h, is.up, eqb_tells block block)) in
-    let no_item : empty_item w ≡ None =
-    ap (λ s. if_empty_item w.forest (block_in w.forest s)) is.caret ∙ ap (if_empty_item w.forest) block_is
-    ∙ ap (λ t. cond (is_at is_item w.forest block && t) (Some block) None) full ∙ never (is_at is_item w.forest block) in
-    let cut : block_cut block p w ≡ Ok two.0 =
-    sym (ap (λ s. at_anchor_of s (λ p format. paragraph_at (empty_item w) (block_of w.forest p.key) p) w) is.caret
-    ∙ ap (λ q. paragraph_at q (block_of w.forest k) p w) no_item ∙ ap (λ q. paragraph_at None q p w) block_is) ∙ two.1.0 in
-    let drafts : two.0 ≡ v =
-    let last : ◌≡◌ {A = Result Broken Cause} (Ok (record { draft = two.0; item = empty_item w })) (Ok left.0) = two.1.1 in
-    let same : two.0 ≡ left.0.draft = cc in same ∙ left.1.1 in
-    subst (λ u. (new : ℕ) × IsPartedAt (place_in w.forest block p) block new k w u) drafts
-    (cut_parted block k at w two.0 is.sound place is.up cut) where
-      not_empty : (xs : List ℕ) (c : ℕ) → is_among c xs ≡ true → eqb (length xs) 0 ≡ false
-      not_empty [] c among = absurd (cc)
-      not_empty (x ∷ xs) c among = grind arith
-
-      never : (b : Bool) → cond (b && false) (Some block) None ≡ None
-      never true = refl
-      never false = refl
-
-pub told-breaking : BreakingPartsText
-told-breaking = record { parted = λ block k at format w v is. break_parted block k at format w v is }

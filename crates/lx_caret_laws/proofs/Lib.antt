@@ -1,6 +1,8 @@
 pub mod Across
 pub mod AllOut
 pub mod AtCaret
+pub mod BreakStarts
+pub mod BreakSteps
 pub mod BrokenParts
 pub mod BrokenUp
 pub mod Covers
@@ -37,6 +39,7 @@ pub mod ReadOver
 pub mod ReadsOver
 pub mod SelectedOver
 pub mod Silent
+pub mod SilentBlocks
 pub mod Spliced
 pub mod SplitSaid
 pub mod Stands

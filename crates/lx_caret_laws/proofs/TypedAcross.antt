@@ -5,9 +5,11 @@ use Rattle.lx_trees.specs.Siblings.{is_among}
 use Rattle.lx_forest.proofs.Lookups.{is_among-children_of, parent_of-self}
 use Rattle.lx_draft.proofs.Gaps.{parent_here}
 use Rattle.lx_caret.specs.Paragraphs.{Broken, draft_left, empty_item, insert_paragraph_step, paragraph_at}
-use Rattle.lx_caret_laws.specs.Breaking.{IsBroken}
+use Rattle.lx_caret_laws.proofs.SilentBlocks.{silent_block}
+use Rattle.lx_caret_laws.proofs.TypedNew.{said_label}
+use Rattle.lx_caret_laws.specs.Breaking.{IsBroken, StartsIn}
 use Rattle.lx_caret_laws.proofs.EditedIn.{around_it}
-use Rattle.lx_caret_laws.proofs.BrokenUp.{left_tells, told-breaking}
+use Rattle.lx_caret_laws.proofs.BreakSteps.{break_parted, left_tells}
 use Rattle.lx_blocks.specs.Blocks.{block_of, is_at, passes}
 use Rattle.lx_blocks.specs.Ranges.{at_anchor, if_normal, lies, normal_at}
 use Rattle.lx_caret.proofs.Fit.{after_tells}
@@ -23,7 +25,7 @@ use Rattle.lx_caret_laws.proofs.TypedAll.{told-typing}
 use Rattle.lx_caret_laws.proofs.TypedOver.{normal_mode, removes_nothing}
 use Rattle.lx_caret_laws.specs.Carets.{IsSound}
 use Rattle.lx_caret_laws.specs.Ranges.{IsGoneAcross, IsPartedOver, IsSelectedAcross, IsTypedAcross, RangesGiveWay}
-use Rattle.lx_caret_laws.specs.Reading.{ReadsBetween, place_in, read_in}
+use Rattle.lx_caret_laws.specs.Reading.{ReadsBetween, place_in, read_in, said}
 use Rattle.lx_caret_laws.specs.Typing.{IsCaretAt, IsTyped}
 use Rattle.lx_draft.proofs.Touched.{is_some-kind_of}
 use Rattle.lx_draft.specs.Faults.{after, text_in}
@@ -32,7 +34,7 @@ use Rattle.lx_draft.specs.Working.{Working}
 use Rattle.lx_edit.specs.Edits.{text_point}
 use Rattle.lx_forest.proofs.Within.{is_within-up}
 use Rattle.lx_forest.specs.Forest.{Forest, Label}
-use Rattle.lx_forest.specs.Lookups.{children_of, has, is_within, kind_of, label_of}
+use Rattle.lx_forest.specs.Lookups.{IsForest, children_of, has, is_within, kind_of, label_of, parent_of}
 use Rattle.lx_node.specs.Kinds.{is_element, is_text_block}
 use Rattle.lx_node.specs.Limits.{most_written}
 use Rattle.lx_node.specs.declared.cause.Cause.{Cause}
@@ -188,9 +190,18 @@ typed_into new p s e i j one other w v is done =
 
 -- ---- a paragraph
 
+-- no node is its own parent
+not_own : (f : Forest) (p q : ℕ) → IsForest f → parent_of f p ≡ Some q → q ≢ p
+not_own f p q h up same = absurd (grind (arith, same, up, parent_of-self f p h, eqb_tells p p))
+
+-- how a block was parted where something in it was selected, and where the caret is then
+record IsCutOver (from to p new first last format : ℕ) (w v : Working) : Type 0 where
+  parted : IsPartedOver from to p new first last w v
+  started : said w.forest p ≡ [] → StartsIn new format v
+
 parted_over : (p s e i j format : ℕ) (one other : TextFields) (w v : Working) → IsSelectedAcross p s e i j format one other w
     → is_at is_text_block w.forest p ≡ true → draft_left (insert_paragraph_step w) ≡ Ok v
-    → (new : ℕ) × IsPartedOver (place_in w.forest p (text_point s i)) (place_in w.forest p (text_point e j)) p new s e w v
+    → (new : ℕ) × IsCutOver (place_in w.forest p (text_point s i)) (place_in w.forest p (text_point e j)) p new s e format w v
 unfolding insert_paragraph_step
 parted_over p s e i j format one other w v is block done =
     let next : Working → Result Broken Cause =
@@ -214,8 +225,8 @@ parted_over p s e i j format one other w v is block done =
       caret = a.caret;
       done = ap draft_left m.again ∙ ap (λ x. Ok x) told.1.1;
     } in
-    let made = told-breaking.parted p s i format m.draft v broken in
-    let parted = made.1 in
+    let made = break_parted p s i format m.draft v broken in
+    let parted = made.1.parted in
     let still = place_still f g p s e i j one other is.before is.between is.behind a.beside a.left a.first a.last a.in_first a.in_last in
     let around = around_it _ _ [] _ _
     (inside f g p s e i j one other is.before is.between is.behind a.beside a.left a.first a.last a.in_first a.in_last) in
@@ -226,24 +237,28 @@ parted_over p s e i j format one other w v is block done =
     let room = allows p s e i j format one other is.before is.between is.behind w m.draft a in (
       made.0,
       record {
-        before = parted.before ∙ ap (λ o. front_of o (read_in g p)) still ∙ front_at n front rest (read_in g p) left long;
-        behind = parted.behind ∙ ap (λ o. rest_of o (read_in g p)) still ∙ rest_at n front rest (read_in g p) left long;
-        fresh = elim (cases_Bool (has made.0 f)) [
-          | inl there ↦ absurd (let bad : false ≡ true = sym parted.fresh ∙ room.there made.0 there in cc)
-          | inr free ↦ free
-        ];
-        order = λ q up.
-            let other : q ≢ p = λ same. absurd (grind (arith, same, up, parent_of-self f p a.beside.order)) in
-            let same : children_of g q ≡ children_of f q = a.draft.others q other in
-            let among : is_among p (children_of f q) ≡ true = is_among-children_of f p q a.beside.order ∙ grind (arith, up, eqb_tells q q) in
-            parted.order q (parent_here g q p a.left.ordered (ap (is_among p) same ∙ among)) ∙ ap (in_place_of p (p ∷ (made.0 ∷ []))) same;
-        aside = record {
-          each = λ x so first second.
-              let out : is_within g x s ≡ false = a.draft.within x ∙ first in
-              let early = m.gone.around.aside.each x so first second in
-              let late = parted.aside.each x (room.there x so) out out in
-              (late.0 ∙ early.0, late.1 ∙ early.1);
+        parted = record {
+          before = parted.before ∙ ap (λ o. front_of o (read_in g p)) still ∙ front_at n front rest (read_in g p) left long;
+          behind = parted.behind ∙ ap (λ o. rest_of o (read_in g p)) still ∙ rest_at n front rest (read_in g p) left long;
+          fresh = elim (cases_Bool (has made.0 f)) [
+            | inl there ↦ absurd (let bad : false ≡ true = sym parted.fresh ∙ room.there made.0 there in cc)
+            | inr free ↦ free
+          ];
+          order = λ q up.
+              let other : q ≢ p = not_own f p q a.beside.order up in
+              let same : children_of g q ≡ children_of f q = a.draft.others q other in
+              let among : is_among p (children_of f q) ≡ true = is_among-children_of f p q a.beside.order ∙ grind (arith, up, eqb_tells q q) in
+              parted.order q (parent_here g q p a.left.ordered (ap (is_among p) same ∙ among)) ∙ ap (in_place_of p (p ∷ (made.0 ∷ []))) same;
+          aside = record {
+            each = λ x so first second.
+                let out : is_within g x s ≡ false = a.draft.within x ∙ first in
+                let early = m.gone.around.aside.each x so first second in
+                let late = parted.aside.each x (room.there x so) out out in
+                (late.0 ∙ early.0, late.1 ∙ early.1);
+          };
         };
+        started = λ silent.
+            made.1.started (said_label f g p (a.draft.labels p not_s not_e) ∙ silent);
       },
     )
 
@@ -265,5 +280,9 @@ told-ranges = record {
   line_break = λ p s e i j format one other w v is done.
       added_across [] (at_anchor broken) p s e i j format one other w v is done
       (λ u caret again. told-typing.line_break (text_point s i) format u v caret again);
-  parted = λ p s e i j format one other w v is block done. parted_over p s e i j format one other w v is block done;
+  parted = λ p s e i j format one other w v is block done.
+      let c = parted_over p s e i j format one other w v is block done in (c.0, c.1.parted);
+  started = λ p s e i j format one other w v is block suited done.
+      let c = parted_over p s e i j format one other w v is block done in
+      (c.0, c.1.parted, c.1.started (silent_block w.forest p suited block));
 }

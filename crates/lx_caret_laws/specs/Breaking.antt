@@ -1,8 +1,11 @@
 -- What it means to insert a paragraph.
 use Rattle.std.specs.Prelude.{ℕ, ◌≡◌, true, false, [], ◌∷◌, Some, Ok}
 use Rattle.lx_node.specs.Kinds.{is_text_block}
+use Rattle.lx_node.specs.declared.cause.Point.{Point}
+use Rattle.lx_select.specs.declared.selection.Selection.TheVariants.{Range}
 use Rattle.lx_text.specs.Texts.{is_offset, front_of, rest_of}
-use Rattle.lx_forest.specs.Lookups.{has, parent_of, children_of}
+use Rattle.lx_forest.specs.Lookups.{has, is_within, parent_of, children_of}
+use Rattle.lx_forest.specs.Suited.{IsSuited}
 use Rattle.lx_draft.specs.Working.{Working}
 use Rattle.lx_edit.specs.Edits.{text_point}
 use Rattle.lx_edit_laws.specs.Reading.{in_place_of}
@@ -31,7 +34,17 @@ pub record IsPartedAt (place block new k : ℕ) (w v : Working) : Type 0 where
       children_of v.forest p ≡ in_place_of block (block ∷ new ∷ []) (children_of w.forest p)
   pub aside : StaysAside k k w.forest v.forest
 
+-- the caret, of this format, is at the start of a node: it is in the node, and nothing of the node is read before it
+pub record StartsIn (k format : ℕ) (w : Working) : Type 0 where
+  pub point : Point
+  pub caret : w.selection ≡ Range point point format
+  pub inside : is_within w.forest k point.key ≡ true
+  pub place : place_in w.forest k point ≡ 0
+
 -- a paragraph that is inserted parts what is read in the block of the caret at the caret
 pub record BreakingPartsText : Type 0 where
   pub parted : (block k at format : ℕ) (w v : Working) → IsBroken block k at format w v →
       (new : ℕ) × IsPartedAt (place_in w.forest block (text_point k at)) block new k w v
+  -- the caret is at the start of the new block then, where the fields of each node are of its kind, as they always are
+  pub started : (block k at format : ℕ) (w v : Working) → IsBroken block k at format w v → IsSuited w.forest →
+      (new : ℕ) × IsPartedAt (place_in w.forest block (text_point k at)) block new k w v × StartsIn new format v

@@ -7,6 +7,7 @@ use Rattle.lx_select.specs.declared.selection.Selection.TheVariants.{Range}
 use Rattle.lx_text.specs.Texts.{text_length, front_of, rest_of}
 use Rattle.lx_forest.specs.Forest.{Forest}
 use Rattle.lx_forest.specs.Lookups.{has, label_of, parent_of, children_of}
+use Rattle.lx_forest.specs.Suited.{IsSuited}
 use Rattle.lx_draft.specs.Working.{Working}
 use Rattle.lx_draft.specs.Steps.{text_replaced}
 use Rattle.lx_edit.specs.Edits.{text_point}
@@ -17,6 +18,7 @@ use Rattle.lx_caret.specs.Paragraphs.{insert_paragraph_step, draft_left}
 use Rattle.lx_caret.specs.Removing.{remove_text_step}
 use Rattle.lx_caret.specs.Deleting.{delete_character_step, delete_word_step}
 use Rattle.lx_caret.specs.Inserting.{insert_text_step, insert_line_break_step, insert_tab_step}
+use Rattle.lx_caret_laws.specs.Breaking.{StartsIn}
 use Rattle.lx_caret_laws.specs.Carets.{IsSound, HasCaret}
 use Rattle.lx_caret_laws.specs.Reading.{ReadsBetween, StaysAside, read_in, reads_in, place_in}
 
@@ -94,3 +96,9 @@ pub record RangesGiveWay : Type 0 where
       → draft_left (insert_paragraph_step w) ≡ Ok v
       → (new : ℕ) × IsPartedOver (place_in w.forest block (text_point first from)) (place_in w.forest block (text_point last to))
       block new first last w v
+  -- and the caret is at the start of the new block then
+  pub started : (block first last from to format : ℕ) (one other : TextFields) (w v : Working)
+      → IsSelectedAcross block first last from to format one other w → is_at is_text_block w.forest block ≡ true → IsSuited w.forest
+      → draft_left (insert_paragraph_step w) ≡ Ok v
+      → (new : ℕ) × IsPartedOver (place_in w.forest block (text_point first from)) (place_in w.forest block (text_point last to))
+      block new first last w v × StartsIn new format v

@@ -15,7 +15,8 @@
 //!   front and then the rest of the last (`spans_give_way`).
 //! * What is selected in a text gets a format that the text didn't have, and loses one that it had. No other character's
 //!   format changes. A whole text that is formatted twice is as before (`formatting_is_exact`).
-//! * A paragraph that is inserted parts what is read in its block at the caret (`breaking_parts_text`).
+//! * A paragraph that is inserted parts what is read in its block at the caret, which is at the start of the new block
+//!   then (`breaking_parts_text`).
 //! * Where one types, deletes or inserts a paragraph, all that the caret isn't in stays as it is.
 //!
 //! What is left where lines are joined at a caret isn't said.
