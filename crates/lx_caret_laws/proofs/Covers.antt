@@ -45,7 +45,7 @@ keeps_all test [] all = refl
 keeps_all test (x ∷ xs) all =
     rw (all x (grind (arith, eqb_tells x x))) (ap (λ t. x ∷ t) (keeps_all test xs (λ q among. all q (grind (arith, among)))))
 
-keeps_none : (test : ℕ → Bool) (xs : List ℕ) → ((q : ℕ) → is_among q xs ≡ true → test q ≡ false) → filter test xs ≡ []
+pub keeps_none : (test : ℕ → Bool) (xs : List ℕ) → ((q : ℕ) → is_among q xs ≡ true → test q ≡ false) → filter test xs ≡ []
 keeps_none test [] none = refl
 keeps_none test (x ∷ xs) none =
     rw (none x (grind (arith, eqb_tells x x))) (keeps_none test xs (λ q among. none q (grind (arith, among))))
@@ -112,7 +112,7 @@ from_tree f n h there =
     (alone-alone key_of n 0 f (grind (arith, h.once n, there, count-without-alone key_of n 0 f)))
 
 -- after a child come the trees of the next ones
-behind_along : (f : Forest) (p x : ℕ) (front mid : List ℕ) (e : ℕ) (rest : List ℕ) → IsForest f → is_attached f p ≡ true
+pub behind_along : (f : Forest) (p x : ℕ) (front mid : List ℕ) (e : ℕ) (rest : List ℕ) → IsForest f → is_attached f p ≡ true
     → children_of f p ≡ front ++ (x ∷ (mid ++ (e ∷ rest))) → behind f x ≡ spread (keys_within f) mid ++ from f e
 behind_along f p x front [] e rest h there are =
     let up : parent_of f x ≡ Some p = parent_here f p x h (ap (is_among x) are ∙ among_at front x (e ∷ rest)) in

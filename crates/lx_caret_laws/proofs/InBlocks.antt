@@ -52,7 +52,7 @@ held_by : (f : Forest) (k : ℕ) (inner : Kind) → IsHeld may_hold f → kind_o
 held_by f k inner held is b = sym (ap₂ (holds may_hold) b.kind_is is) ∙ held.each k b.parent b.up
 
 -- a node that is no text block has the block of what it is below
-block_up : (f : Forest) (k p : ℕ) → IsForest f → parent_of f k ≡ Some p → is_at is_text_block f k ≡ false → block_of f k ≡ block_of f p
+pub block_up : (f : Forest) (k p : ℕ) → IsForest f → parent_of f k ≡ Some p → is_at is_text_block f k ≡ false → block_of f k ≡ block_of f p
 block_up f k p h up no_block =
     ap (λ ks. find (is_at is_text_block f) (k ∷ ks)) (ancestors-step f k p h up)
     ∙ ap (λ t. cond t (Some k) (find (is_at is_text_block f) (p ∷ ancestors f p))) no_block

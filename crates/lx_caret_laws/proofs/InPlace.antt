@@ -96,7 +96,7 @@ among-within f b q = is_among-preorder key_of q (alone b f)
 
 -- ---- places along nodes
 
-place-append : (f : Forest) (p : Point) (xs ys : List ℕ) → place_along f p (xs ++ ys)
+pub place-append : (f : Forest) (p : Point) (xs ys : List ℕ) → place_along f p (xs ++ ys)
     ≡ cond (is_among p.key xs) (place_along f p xs) (text_length (said_by f xs) + place_along f p ys)
 place-append f p [] ys = omega (arith, length-none)
 place-append f p (x ∷ xs) ys = elim (eqb_tells p.key x) [

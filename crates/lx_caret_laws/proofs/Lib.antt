@@ -7,6 +7,8 @@ pub mod BrokenParts
 pub mod BrokenUp
 pub mod Covers
 pub mod CutLists
+pub mod EdgeEnd
+pub mod EdgeStart
 pub mod EditedIn
 pub mod Emptied
 pub mod Followed
@@ -21,6 +23,9 @@ pub mod GoneOver
 pub mod GoneUp
 pub mod InBlocks
 pub mod InPlace
+pub mod JoinMet
+pub mod JoinSteps
+pub mod Joined
 pub mod JoinedKeys
 pub mod JoinedOver
 pub mod KeysLeft
@@ -37,12 +42,14 @@ pub mod ReadBeside
 pub mod ReadLevels
 pub mod ReadOver
 pub mod ReadsOver
+pub mod RuleGone
 pub mod SelectedOver
 pub mod Silent
 pub mod SilentBlocks
 pub mod Spliced
 pub mod SplitSaid
 pub mod Stands
+pub mod Stops
 pub mod Through
 pub mod ToldSpans
 pub mod Turned
@@ -51,4 +58,5 @@ pub mod TypedAll
 pub mod TypedIn
 pub mod TypedNew
 pub mod TypedOver
+pub mod WentIn
 pub mod WentOut

@@ -116,7 +116,7 @@ pub record WentOut (p s : ℕ) (front rest : List ℕ) (w v : Working) : Type 0 
   pub caret : (i format : ℕ) → w.selection ≡ Range (text_point s i) (text_point s i) format → v.selection ≡ w.selection
   pub written : v.written ≡ w.written
 
-without_middle : (k : ℕ) (front rest : List ℕ) → NoRepeats (front ++ (k ∷ rest)) → names_without k (front ++ (k ∷ rest)) ≡ front ++ rest
+pub without_middle : (k : ℕ) (front rest : List ℕ) → NoRepeats (front ++ (k ∷ rest)) → names_without k (front ++ (k ∷ rest)) ≡ front ++ rest
 without_middle k [] rest once =
     let own : eqb k k ≡ true = grind (arith, eqb_tells k k) in
     rw own (names_without-absent_list k rest once.0)

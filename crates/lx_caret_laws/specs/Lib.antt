@@ -4,6 +4,7 @@ pub mod Deleting
 pub mod Following
 pub mod Formats
 pub mod Formatting
+pub mod Joining
 pub mod Ranges
 pub mod Reading
 pub mod Spans

@@ -17,9 +17,11 @@
 //!   format changes. A whole text that is formatted twice is as before (`formatting_is_exact`).
 //! * A paragraph that is inserted parts what is read in its block at the caret, which is at the start of the new block
 //!   then (`breaking_parts_text`).
+//! * Back at the start of a line, or forward at the end of one, it is joined with the line beside it. What both read is
+//!   read one after the other, and the caret is between (`joining_keeps_text`).
 //! * Where one types, deletes or inserts a paragraph, all that the caret isn't in stays as it is.
 //!
-//! What is left where lines are joined at a caret isn't said.
+//! What is left where lines are joined that have more than inline children isn't said.
 #![tactic(auto)]
 
 mod breaking;
@@ -27,6 +29,7 @@ mod deleting;
 mod following;
 mod formats;
 mod formatting;
+mod joining;
 mod ranges;
 mod spans;
 mod typing;
@@ -36,6 +39,7 @@ pub use deleting::deleting_is_exact;
 pub use following::caret_follows;
 pub use formats::formatting_is_exact;
 pub use formatting::formatting_keeps_text;
+pub use joining::joining_keeps_text;
 pub use ranges::ranges_give_way;
 pub use spans::spans_give_way;
 pub use typing::typing_is_read;
