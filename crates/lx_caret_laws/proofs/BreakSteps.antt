@@ -179,10 +179,11 @@ cut_parted block k at format w v sound place up ranged e =
     let index_is : index_of s.forest k ≡ index_in (children_of s.forest block) k = ap (λ q. index_in (children_below s.forest q) k) up_s in
     let among : is_among k (children_of s.forest block) ≡ true =
     grind (arith, is_among-children_of s.forest k block sh, up_s, eqb_tells block block) in
-    by_index s o.0 o.1 (cut_kept format k at w s sound one.1.0 ranged) (index_in (children_of s.forest block) k) refl (is_some-index_in (children_of s.forest block) k ∙ among)
+    by_index s o.0 o.1 (cut_kept format k at w s sound one.1.0 ranged) (index_in (children_of s.forest block) k) refl
+    (is_some-index_in (children_of s.forest block) k ∙ among)
     (ap (λ q. moved_on block (drop (place_of q at) (children_of s.forest block)) s) (sym index_is) ∙ whole) where
-      by_index : (s : Working) (rest : List ℕ) → IsOpened k at rest w s → InFormat format s.selection → (q : Option ℕ) → index_in (children_of s.forest block) k ≡ q
-          → is_some q ≡ true
+      by_index : (s : Working) (rest : List ℕ) → IsOpened k at rest w s → InFormat format s.selection → (q : Option ℕ)
+          → index_in (children_of s.forest block) k ≡ q → is_some q ≡ true
           → moved_on block (drop (place_of q at) (children_of s.forest block)) s ≡ Ok v
           → (new : ℕ) × IsCutInTwo (place_in w.forest block (text_point k at)) block new k format w v
       by_index s rest o ranged None is some e = absurd (cc)

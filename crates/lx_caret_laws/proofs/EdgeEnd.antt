@@ -150,7 +150,8 @@ module _ (f : Forest) (h : IsForest f) where
       let a = around d back among in
       let whole : children_of f x ≡ front ++ (c ∷ (a.front ++ (d ∷ a.back))) = are ∙ ap (λ t. front ++ (c ∷ t)) a.is in
       let up : parent_of f d ≡ Some x =
-      parent_here f x d h (ap (is_among d) are ∙ is_among-append d front (c ∷ back) ∙ or_last (is_among d front) (is_among d (c ∷ back)) (grind (arith, among))) in
+      parent_here f x d h (ap (is_among d) are ∙ is_among-append d front (c ∷ back)
+      ∙ or_last (is_among d front) (is_among d (c ∷ back)) (grind (arith, among))) in
       let attached : is_attached f d ≡ true = is_attached-up f d x h up ∙ there in
       let there_q : is_among q (from f d) ≡ true =
       ap (is_among q) (from_tree f d h attached) ∙ is_among-append q (keys_within f d) (behind f d)

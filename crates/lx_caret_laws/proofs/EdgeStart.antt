@@ -263,7 +263,8 @@ module _ (f : Forest) (b : ℕ) (p : Point) (i : IsInLine f b p) where
         let within : is_within f b q ≡ true = sym (among-within f b q) ∙ among_until (Some p.key) (keys_within f b) q among in
         let early : is_among q cut_p.0 ≡ true = ap (is_among q) front_p ∙ in_back q cut_b.0 (until (Some p.key) (keys_within f b)) among in
         quiet_before q (split.early q early) within (λ e.
-        absurd (let bad : false ≡ true = sym (until_without p.key (keys_within f b)) ∙ ap (λ x. is_among x (until (Some p.key) (keys_within f b))) (sym e) ∙ among in cc)))
+        let ks : List ℕ = until (Some p.key) (keys_within f b) in
+        absurd (let bad : false ≡ true = sym (until_without p.key (keys_within f b)) ∙ ap (λ x. is_among x ks) (sym e) ∙ among in cc)))
 
     on_it : (kind : PointKind) → p.kind ≡ kind → has_more true f p kind ≡ false → place_on f p kind ≡ 0
     on_it point.Text is more = grind (arith, nat_tests, more)
