@@ -12,7 +12,7 @@ use Rattle.lx_caret_laws.proofs.BrokenParts.{among_drop}
 use Rattle.lx_caret_laws.proofs.Covers.{among_at, behind_along, from_tree, no_repeats_back, out_of_front}
 use Rattle.lx_caret_laws.proofs.EdgeStart.{IsInLine, at_index, quiet, reads_none, said_none, until_middle}
 use Rattle.lx_caret_laws.proofs.InPlace.{among-within, apart_children, below_parent, keys-level, place-here, place-level}
-use Rattle.lx_caret_laws.proofs.Joined.{past}
+use Rattle.lx_caret_laws.proofs.JoinedIn.{past}
 use Rattle.lx_caret_laws.proofs.Opened.{characters_said, no_element_at, place_said}
 use Rattle.lx_caret_laws.proofs.ReadLevels.{read-leaf, read-level, reads-append}
 use Rattle.lx_caret_laws.proofs.TypedNew.{parts_read}
@@ -59,12 +59,12 @@ find_tells test (x ∷ xs) q none among = by_test (find_tells test xs q) (test x
   ]
 
 -- a list around one in it
-record IsAround (k : ℕ) (xs : List ℕ) : Type 0 where
-  front : List ℕ
-  back : List ℕ
-  is : xs ≡ front ++ (k ∷ back)
+pub record IsAround (k : ℕ) (xs : List ℕ) : Type 0 where
+  pub front : List ℕ
+  pub back : List ℕ
+  pub is : xs ≡ front ++ (k ∷ back)
 
-around : (k : ℕ) (xs : List ℕ) → is_among k xs ≡ true → IsAround k xs
+pub around : (k : ℕ) (xs : List ℕ) → is_among k xs ≡ true → IsAround k xs
 around k [] e = absurd (cc)
 around k (x ∷ xs) e = elim (eqb_tells x k) [
   | inl own ↦ record { front = []; back = xs; is = ap (λ y. y ∷ xs) own.1 }
@@ -80,17 +80,17 @@ or_last false b e = e
 -- ---- what comes after the tree of a node
 
 module _ (f : Forest) (h : IsForest f) where
-  cut : (k : ℕ) → is_attached f k ≡ true → (front : List ℕ) × (preorder f ≡ front ++ from f k)
+  pub cut : (k : ℕ) → is_attached f k ≡ true → (front : List ℕ) × (preorder f ≡ front ++ from f k)
   cut k there = preorder-cut key_of (alone 0 f) k (tree_distinct f h) (grind (arith, there))
 
-  cut_tree : (k : ℕ) (there : is_attached f k ≡ true) → preorder f ≡ (cut k there).0 ++ (keys_within f k ++ behind f k)
+  pub cut_tree : (k : ℕ) (there : is_attached f k ≡ true) → preorder f ≡ (cut k there).0 ++ (keys_within f k ++ behind f k)
   cut_tree k there = (cut k there).1 ∙ ap (λ ks. (cut k there).0 ++ ks) (from_tree f k h there)
 
   once_tree : (k : ℕ) (there : is_attached f k ≡ true) → NoRepeats ((cut k there).0 ++ (keys_within f k ++ behind f k))
   once_tree k there = subst NoRepeats (cut_tree k there) (NoRepeats-preorder_of f h)
 
   -- it isn't before the node or in its tree
-  behind_out : (k q : ℕ) (there : is_attached f k ≡ true) → is_among q (behind f k) ≡ true
+  pub behind_out : (k q : ℕ) (there : is_attached f k ≡ true) → is_among q (behind f k) ≡ true
       → (is_among q (cut k there).0 ≡ false) × (is_among q (keys_within f k) ≡ false)
   behind_out k q there among =
       let later : is_among q (keys_within f k ++ behind f k) ≡ true =
@@ -112,7 +112,7 @@ module _ (f : Forest) (h : IsForest f) where
       (is_among-append q (keys_within f k) (behind f k) ∙ or_last (is_among q (keys_within f k)) (is_among q (behind f k)) among)
 
   -- what comes after a node's tree comes after that of each node below it
-  behind_more : (c k q : ℕ) → is_attached f c ≡ true → is_attached f k ≡ true → is_within f c k ≡ true → is_among q (behind f c) ≡ true
+  pub behind_more : (c k q : ℕ) → is_attached f c ≡ true → is_attached f k ≡ true → is_within f c k ≡ true → is_among q (behind f c) ≡ true
       → is_among q (behind f k) ≡ true
   behind_more c k q there_c there_k inside among =
       let out = behind_out c q there_c among in
@@ -144,7 +144,7 @@ module _ (f : Forest) (h : IsForest f) where
       grind (arith, parts, all, not_front, not_below)
 
   -- what is in the tree of a later child comes after that of an earlier one
-  later_child : (x c d q : ℕ) (front back : List ℕ) → is_attached f x ≡ true → children_of f x ≡ front ++ (c ∷ back) → is_among d back ≡ true
+  pub later_child : (x c d q : ℕ) (front back : List ℕ) → is_attached f x ≡ true → children_of f x ≡ front ++ (c ∷ back) → is_among d back ≡ true
       → is_within f d q ≡ true → is_among q (behind f c) ≡ true
   later_child x c d q front back there are among inside =
       let a = around d back among in

@@ -12,14 +12,20 @@ use Rattle.lx_caret_laws.proofs.Covers.{among_at}
 use Rattle.lx_caret_laws.proofs.EdgeEnd.{nothing_after}
 use Rattle.lx_caret_laws.proofs.EdgeStart.{IsInLine, nothing_before}
 use Rattle.lx_caret_laws.proofs.InPlace.{apart_children, out_below}
+<<<<<<< HEAD
 use Rattle.lx_caret_laws.proofs.Joined.{LeftJoined, at_end, from_first, from_second, read_joined, read_others}
 use Rattle.lx_caret_laws.proofs.RuleGone.{rule_gone}
 use Rattle.lx_caret_laws.proofs.SilentBlocks.{element_of_block, silent_block}
+=======
+use Rattle.lx_caret_laws.proofs.Joined.{LeftJoined, read_line, read_others, set_in}
+use Rattle.lx_caret_laws.proofs.JoinedIn.{IsSetIn, at_end, from_first, from_second}
+use Rattle.lx_caret_laws.proofs.SilentBlocks.{element_of_block, silent_block}
+>>>>>>> ad759e37 (lx_caret_laws: what is read where lines of two parents are joined)
 use Rattle.lx_caret_laws.proofs.Stops.{AreThere, apart, line_children, met_back, met_on, once, up_first, up_second}
 use Rattle.lx_caret_laws.proofs.WentIn.{MayGo, as_moved, caret_goes, take_caret}
 use Rattle.lx_caret_laws.proofs.WentOut.{without_middle}
 use Rattle.lx_caret_laws.specs.Carets.{IsSound}
-use Rattle.lx_caret_laws.specs.Joining.{AreJoined, AreLines, Deletes, IsAtEdge, IsBehindAll, IsLine, JoiningKeepsText}
+use Rattle.lx_caret_laws.specs.Joining.{AreJoined, AreLines, Deletes, IsAtEdge, IsBehindAll, IsLine}
 use Rattle.lx_caret_laws.specs.Reading.{place_in, read_in, said}
 use Rattle.lx_draft.proofs.Gaps.{parent_here}
 use Rattle.lx_draft.specs.Faults.{after}
@@ -51,7 +57,7 @@ use Rattle.lx_trees.proofs.Siblings.{names_without-absent_list}
 use Rattle.lx_trees.specs.Siblings.{NoRepeats, is_among, names_without}
 use Rattle.std.proofs.Common.{List, Ok, Some, [], ap, append_assoc, ap₂, arith, cond, eqb, false, inl, inr, length, not, refl, subst, sym, true, ℕ, ◌&&◌, ◌++◌, ◌||◌, ◌∙◌, ◌∷◌, ◌≡◌, ◌≢◌, ◌≤◌}
 use Rattle.std.proofs.lemmas.Bool.Decides.{eqb_tells, nat_tests}
-use Rattle.lx_caret_laws.proofs.JoinMet.{deletes_joins, inline_all, joined_back, joined_on, leads_all, none_before, none_behind, none_hold, rule_before, rule_behind, table_before, table_behind}
+use Rattle.lx_caret_laws.proofs.JoinMet.{deletes_joins, inline_all, joined_back, joined_on, leads_all, none_hold}
 
 -- ---- the step
 
@@ -228,9 +234,12 @@ module _ (parent first second : ℕ) (before rest : List ℕ) (p : Point) (forma
       others = left.others;
     }
 
+    set : IsSetIn f v.forest first second
+    set = set_in f v.forest parent first second before rest both_left
+
     pub are_joined : AreJoined parent first second before rest w v
     are_joined = record {
-      read = read_joined f v.forest parent first second before rest both_left;
+      read = read_line f v.forest parent first second before rest both_left;
       children = left.joined;
       left = left.left;
       elsewhere = read_others f v.forest parent first second before rest both_left;
@@ -242,10 +251,10 @@ module _ (parent first second : ℕ) (before rest : List ℕ) (p : Point) (forma
     pub from_start : is_within f second p.key ≡ true → place_in f second p ≡ 0 → IsBehindAll first format w v
     from_start inside start = elim (eqb_tells p.key second) [
       | inl own ↦
-          let end = at_end f v.forest parent first second before rest both_left in
+          let end = at_end f v.forest first second set in
           record { point = there; caret = left.at_second own.1; inside = end.inside; place = end.place }
       | inr other ↦
-          let there = from_second f v.forest parent first second before rest both_left p inside other.1 in
+          let there = from_second f v.forest first second set p inside other.1 in
           record { point = p; caret = left.elsewhere other.1; inside = there.inside; place = omega (arith, there.place, start) }
     ]
 
@@ -253,13 +262,13 @@ module _ (parent first second : ℕ) (before rest : List ℕ) (p : Point) (forma
     pub from_end : is_within f first p.key ≡ true → place_in f first p ≡ text_length (read_in f first) → IsBehindAll first format w v
     from_end inside end =
         let other : p.key ≢ second = λ own. absurd (let bad : false ≡ true = sym off_second ∙ ap (is_within f first) (sym own) ∙ inside in cc) in
-        let there = from_first f v.forest parent first second before rest both_left p inside (λ own is. m.few own) in
+        let there = from_first f v.forest first second set p inside (λ own is. m.few own) in
         record { point = p; caret = left.elsewhere other; inside = there.inside; place = there.place ∙ end }
 
 -- ---- the commands
 
 -- a point in an element is at an index of its children
-index_within : (f : Forest) (p : Point) → lies f p ≡ true → is_at is_element f p.key ≡ true → p.offset ≤ size_of f p.key
+pub index_within : (f : Forest) (p : Point) → lies f p ≡ true → is_at is_element f p.key ≡ true → p.offset ≤ size_of f p.key
 index_within f p place element = by_kind p.kind (both (is_attached f p.key) (lies_in f p) place).1 where
   by_kind : (c : PointKind) → (is_counted_in c (kind_of f p.key) && is_place f p c) ≡ true → p.offset ≤ size_of f p.key
   by_kind point.Text e =
@@ -293,12 +302,12 @@ meant parent first second block p format w are caret place inside up =
           (index_within f p place (ap (is_at is_element f) own ∙ element_of_block (kind_of f first) are.first_line.kind));
     }
 
-in_block : (f : Forest) (p : Point) (block : ℕ) → IsForest f → lies f p ≡ true → block_of f p.key ≡ Some block → is_within f block p.key ≡ true
+pub in_block : (f : Forest) (p : Point) (block : ℕ) → IsForest f → lies f p ≡ true → block_of f p.key ≡ Some block → is_within f block p.key ≡ true
 in_block f p block h place is =
     block_within f p.key block h (attached_there f p.key (both (is_attached f p.key) (lies_in f p) place).0) is
 
 -- the caret is in a line
-in_line : (b : ℕ) (w : Working) (p : Point) → IsSound w → IsSuited w.forest → IsLine w.forest b → lies w.forest p ≡ true
+pub in_line : (b : ℕ) (w : Working) (p : Point) → IsSound w → IsSuited w.forest → IsLine w.forest b → lies w.forest p ≡ true
     → is_within w.forest b p.key ≡ true → IsInLine w.forest b p
 in_line b w p sound suited line place inside =
     let f : Forest = w.forest in
@@ -325,7 +334,7 @@ up_of parent first second w are =
       parent_here f parent second h (ap (is_among second) moved ∙ among_at (are.before ++ (first ∷ [])) second are.behind),
     )
 
-joined_at_start : (parent first second format : ℕ) (p : Point) (w v : Working) → (are : AreLines parent first second w)
+pub joined_at_start : (parent first second format : ℕ) (p : Point) (w v : Working) → (are : AreLines parent first second w)
     → IsAtEdge true second p format w → Deletes true w v
     → AreJoined parent first second are.before are.behind w v × IsBehindAll first format w v
 unfolding join_step
@@ -343,7 +352,7 @@ joined_at_start parent first second format p w v are is e =
       from_start parent first second are.before are.behind p format w v m silent step inside start,
     )
 
-joined_at_end : (parent first second format : ℕ) (p : Point) (w v : Working) → (are : AreLines parent first second w)
+pub joined_at_end : (parent first second format : ℕ) (p : Point) (w v : Working) → (are : AreLines parent first second w)
     → IsAtEdge false first p format w → Deletes false w v
     → AreJoined parent first second are.before are.behind w v × IsBehindAll first format w v
 joined_at_end parent first second format p w v are is e =
@@ -362,19 +371,3 @@ joined_at_end parent first second format p w v are is e =
       are_joined parent first second are.before are.behind p format w v m silent step,
       from_end parent first second are.before are.behind p format w v m silent step inside end,
     )
-
-pub told-joining : JoiningKeepsText
-told-joining = record {
-  back = λ parent first second format p w v are is e. joined_at_start parent first second format p w v are is e;
-  on = λ parent first second format p w v are is e. joined_at_end parent first second format p w v are is e;
-  first_block = λ block format p w v is none e. none_before block w v none (deletes_joins true block p format w v is e).joins;
-  last_block = λ block format p w v is none e. none_behind block w v none (deletes_joins false block p format w v is e).joins;
-  behind_table = λ block table format p w v is found kind e.
-      table_before block table w v found kind (deletes_joins true block p format w v is e).joins;
-  before_table = λ block table format p w v is found kind e.
-      table_behind block table w v found kind (deletes_joins false block p format w v is e).joins;
-  behind_rule = λ block rule format p w v sound suited is found kind e.
-      rule_gone rule w v sound suited kind (rule_before block rule w v found kind (deletes_joins true block p format w v is e).joins);
-  before_rule = λ block rule format p w v sound suited is found kind e.
-      rule_gone rule w v sound suited kind (rule_behind block rule w v found kind (deletes_joins false block p format w v is e).joins);
-}

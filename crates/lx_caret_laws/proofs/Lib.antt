@@ -11,6 +11,9 @@ pub mod EdgeEnd
 pub mod EdgeStart
 pub mod EditedIn
 pub mod Emptied
+pub mod FarGone
+pub mod FarRead
+pub mod FarSteps
 pub mod Followed
 pub mod FormatKept
 pub mod FormatsIn
@@ -25,7 +28,9 @@ pub mod InBlocks
 pub mod InPlace
 pub mod JoinMet
 pub mod JoinSteps
+pub mod JoinTold
 pub mod Joined
+pub mod JoinedIn
 pub mod JoinedKeys
 pub mod JoinedOver
 pub mod KeysLeft

@@ -107,39 +107,39 @@ reads_each f g [] each = refl
 reads_each f g (c ∷ cs) each =
     ap₂ (λ a b. a ++ b) (each c (grind (arith, eqb_tells c c))) (reads_each f g cs (λ x among. each x (grind (arith, among))))
 
+still_among : (k : ℕ) (cs : List ℕ) (c : ℕ) → is_among c (names_without k cs) ≡ true → is_among c cs ≡ true
+still_among k [] c among = absurd (cc)
+still_among k (x ∷ cs) c among = elim (eqb_tells x k) [
+  | inl own ↦ grind (arith, still_among k cs c (ap (λ t. is_among c (cond t (names_without k cs) (x ∷ names_without k cs))) (sym own.0) ∙ among))
+  | inr other ↦ elim (eqb_tells x c) [
+    | inl here ↦ grind (arith, here)
+    | inr far ↦ grind (arith, far, other, among, still_among k cs c)
+  ]
+]
+
+-- where a node goes in which nothing is read, the same is read in each
+pub read_without : (k : ℕ) (f : Forest) → IsForest f → read_in f k ≡ [] → (b : ℕ) → read_in (take_out k f) b ≡ read_in f b
+read_without k f h none b =
+    let g : Forest = take_out k f in
+    reads_by f g (λ q. false) h (IsForest-take_out k f h) (λ b clear known. record {
+      own = said_label f g b (label_of-take_out k f b h);
+      below = ap (reads_in g) (children_of-take_out k f b h)
+          ∙ reads_each f g (names_without k (children_of f b)) (λ c among.
+          known c (parent_here f b c h (still_among k (children_of f b) c among)) refl)
+          ∙ reads_without f k (children_of f b) none;
+    }) b refl
+
 pub rule_gone : (k : ℕ) (w v : Working) → IsSound w → IsSuited w.forest → kind_of w.forest k ≡ Some kinds.Rule → remove_step k w ≡ Ok v
     → IsRuleGone k w v
 rule_gone k w v sound suited kind e =
     let f : Forest = w.forest in
     let g : Forest = take_out k f in
     let h : IsForest f = sound.ready.in_order in
-    let j : IsForest g = IsForest-take_out k f h in
     let forest : v.forest ≡ g = rule_out k w v sound kind e in
     let leaf : children_of f k ≡ [] = no_children f k h sound.held (ap (passes is_element) kind ∙ rule_leaf) in
     let none : read_in f k ≡ [] = read-leaf f k h leaf ∙ rule_said (label_of f k) (suited.each k) kind in
-    let same : (b : ℕ) → read_in g b ≡ read_in f b =
-    λ b. reads_by f g (λ q. false) h j (λ b clear known. record {
-      own = said_label f g b (label_of-take_out k f b h);
-      below =
-          ap (reads_in g) (children_of-take_out k f b h) ∙ reads_each_without b known ∙ reads_without f k (children_of f b) none;
-    }) b refl in
     record {
       children = λ q. ap (λ x. children_of x q) forest ∙ children_of-take_out k f q h;
       labels = λ q. ap (λ x. label_of x q) forest ∙ label_of-take_out k f q h;
-      read = λ b. ap (λ x. read_in x b) forest ∙ same b;
-    } where
-      still_among : (cs : List ℕ) (c : ℕ) → is_among c (names_without k cs) ≡ true → is_among c cs ≡ true
-      still_among [] c among = absurd (cc)
-      still_among (x ∷ cs) c among = elim (eqb_tells x k) [
-        | inl own ↦ grind (arith, still_among cs c (ap (λ t. is_among c (cond t (names_without k cs) (x ∷ names_without k cs))) (sym own.0) ∙ among))
-        | inr other ↦ elim (eqb_tells x c) [
-          | inl here ↦ grind (arith, here)
-          | inr far ↦ grind (arith, far, other, among, still_among cs c)
-        ]
-      ]
-
-      reads_each_without : (b : ℕ) → ((c : ℕ) → parent_of w.forest c ≡ Some b → false ≡ false → read_in (take_out k w.forest) c ≡ read_in w.forest c)
-          → reads_in (take_out k w.forest) (names_without k (children_of w.forest b)) ≡ reads_in w.forest (names_without k (children_of w.forest b))
-      reads_each_without b known =
-          reads_each w.forest (take_out k w.forest) (names_without k (children_of w.forest b)) (λ c among.
-          known c (parent_here w.forest b c sound.ready.in_order (still_among (children_of w.forest b) c among)) refl)
+      read = λ b. ap (λ x. read_in x b) forest ∙ read_without k f h none b;
+    }

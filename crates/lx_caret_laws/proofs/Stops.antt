@@ -40,7 +40,7 @@ inline_child f c b held up inline =
     let may : may_hold outer.0 inner.0 ≡ true = sym (ap₂ (holds may_hold) outer.1 inner.1) ∙ held.each c b up in
     ap (passes is_inline) inner.1 ∙ held_inline outer.0 inner.0 (sym (ap (passes is_inline) outer.1) ∙ inline) may
 
-inline_below : (f : Forest) (b : ℕ) → IsForest f → IsHeld may_hold f → is_at is_inline f b ≡ true → (q : ℕ) → is_within f b q ≡ true
+pub inline_below : (f : Forest) (b : ℕ) → IsForest f → IsHeld may_hold f → is_at is_inline f b ≡ true → (q : ℕ) → is_within f b q ≡ true
     → is_at is_inline f q ≡ true
 inline_below f b h held = down f h (λ b. is_at is_inline f b ≡ true → (q : ℕ) → is_within f b q ≡ true → is_at is_inline f q ≡ true)
     (λ b each inline q inside. elim (eqb_tells q b) [

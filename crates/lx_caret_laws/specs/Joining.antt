@@ -7,9 +7,10 @@ use Rattle.lx_select.specs.declared.selection.Selection.TheVariants.{Range}
 use Rattle.lx_text.specs.Texts.{text_length}
 use Rattle.lx_trees.specs.Siblings.{names_without}
 use Rattle.lx_forest.specs.Forest.{Forest}
-use Rattle.lx_forest.specs.Lookups.{is_within, kind_of, label_of, parent_of, children_of}
+use Rattle.lx_forest.specs.Lookups.{is_within, kind_of, label_of, parent_of, children_of, size_of}
 use Rattle.lx_forest.specs.Suited.{IsSuited}
 use Rattle.lx_draft.specs.Working.{Working}
+use Rattle.lx_edit.specs.Edits.{element_point}
 use Rattle.lx_blocks.specs.Blocks.{is_at, block_of}
 use Rattle.lx_caret.specs.Deleting.{has_more, leaf_beside, stop_before, stop_behind, delete_character_step, delete_word_step}
 use Rattle.lx_caret_laws.specs.Carets.{IsSound}
@@ -60,6 +61,26 @@ pub record IsBehindAll (k format : ℕ) (w v : Working) : Type 0 where
   pub inside : is_within v.forest k point.key ≡ true
   pub place : place_in v.forest k point ≡ text_length (read_in w.forest k)
 
+-- in such a draft a line is what deleting back at the start of another meets, wherever the two are
+pub record IsMetBack (first second : ℕ) (w : Working) : Type 0 where
+  pub sound : IsSound w
+  pub suited : IsSuited w.forest
+  pub first_line : IsLine w.forest first
+  pub second_line : IsLine w.forest second
+  pub met : stop_before w.forest second ≡ Some first
+
+-- A line was joined with another, wherever the two are: the first reads what both read, one after the other, and the second has no
+-- parent any more. In each node that holds both the same is read as before, if nothing was read in it between the end of the first
+-- and the start of the second. In each that holds neither the same is read too. Every node has its label.
+pub record AreJoinedApart (first second : ℕ) (w v : Working) : Type 0 where
+  pub read : read_in v.forest first ≡ read_in w.forest first ++ read_in w.forest second
+  pub gone : parent_of v.forest second ≡ None
+  pub around : (b : ℕ) → is_within w.forest b first ≡ true → is_within w.forest b second ≡ true
+      → place_in w.forest b (element_point first (size_of w.forest first)) ≡ place_in w.forest b (element_point second 0)
+      → read_in v.forest b ≡ read_in w.forest b
+  pub aside : (b : ℕ) → is_within w.forest b first ≡ false → is_within w.forest b second ≡ false → read_in v.forest b ≡ read_in w.forest b
+  pub labels : (q : ℕ) → label_of v.forest q ≡ label_of w.forest q
+
 -- A rule went: it is no child any more, every node has its label, and the same is read in each as before.
 pub record IsRuleGone (rule : ℕ) (w v : Working) : Type 0 where
   pub children : (q : ℕ) → children_of v.forest q ≡ names_without rule (children_of w.forest q)
@@ -77,6 +98,11 @@ pub record JoiningKeepsText : Type 0 where
   pub on : (parent first second format : ℕ) (p : Point) (w v : Working) → (are : AreLines parent first second w)
       → IsAtEdge false first p format w → Deletes false w v
       → AreJoined parent first second are.before are.behind w v × IsBehindAll first format w v
+  -- so they are where they are children of two nodes, such as a paragraph and the last item of the list before it
+  pub back_apart : (first second format : ℕ) (p : Point) (w v : Working) → IsMetBack first second w → IsAtEdge true second p format w
+      → Deletes true w v → AreJoinedApart first second w v × IsBehindAll first format w v
+  pub on_apart : (first second format : ℕ) (p : Point) (w v : Working) → IsMetBack first second w → stop_behind w.forest first ≡ Some second
+      → IsAtEdge false first p format w → Deletes false w v → AreJoinedApart first second w v × IsBehindAll first format w v
   -- nothing changes where no line, rule or table comes on that side in the root or the cell that the block is in ..
   pub first_block : (block format : ℕ) (p : Point) (w v : Working) → IsAtEdge true block p format w → stop_before w.forest block ≡ None
       → Deletes true w v → v ≡ w

@@ -17,11 +17,11 @@
 //!   format changes. A whole text that is formatted twice is as before (`formatting_is_exact`).
 //! * A paragraph that is inserted parts what is read in its block at the caret, which is at the start of the new block
 //!   then (`breaking_parts_text`).
-//! * Back at the start of a line, or forward at the end of one, it is joined with the line beside it. What both read is
-//!   read one after the other, and the caret is between (`joining_keeps_text`).
+//! * Back at the start of a line, or forward at the end of one, it is joined with the line before or after it. What both
+//!   read is read one after the other, and the caret is between (`joining_keeps_text`).
 //! * Where one types, deletes or inserts a paragraph, all that the caret isn't in stays as it is.
 //!
-//! What is left where lines are joined that have more than inline children isn't said.
+//! What is left where blocks are joined at a caret that have more than inline children isn't said.
 #![tactic(auto)]
 
 mod breaking;

@@ -1,4 +1,4 @@
-use Rattle.lx_caret_laws.proofs.JoinSteps.{told-joining}
+use Rattle.lx_caret_laws.proofs.JoinTold.{told-joining}
 use Rattle.lx_caret_laws.proofs.joining.joining_keeps_text.Goals as goal
 
 pub returns : goal.returns
