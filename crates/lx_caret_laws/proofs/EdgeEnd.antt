@@ -73,7 +73,7 @@ around k (x ∷ xs) e = elim (eqb_tells x k) [
       record { front = x ∷ more.front; back = more.back; is = ap (λ t. x ∷ t) more.is }
 ]
 
-or_last : (a b : Bool) → b ≡ true → (a || b) ≡ true
+pub or_last : (a b : Bool) → b ≡ true → (a || b) ≡ true
 or_last true b e = refl
 or_last false b e = e
 

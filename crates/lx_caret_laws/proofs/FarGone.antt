@@ -48,7 +48,7 @@ record OneOut (k p : ℕ) (r : Point) (format : ℕ) (w u : Working) : Type 0 wh
   forest : u.forest ≡ take_out k w.forest
   caret : u.selection ≡ Range r r format
 
-none_on : (k : ℕ) (r : Point) → r.key ≢ k → (eqb r.key k || eqb r.key k) ≡ false
+pub none_on : (k : ℕ) (r : Point) → r.key ≢ k → (eqb r.key k || eqb r.key k) ≡ false
 none_on k r off = grind (arith, off, eqb_tells r.key k)
 
 one_out : (k p : ℕ) (r : Point) (format : ℕ) (w u : Working) → parent_of w.forest k ≡ Some p → w.selection ≡ Range r r format

@@ -1,6 +1,6 @@
 -- A line that was joined with one elsewhere: in each node that holds both, the same is read where nothing was read between them.
 use Rattle.lx_caret_laws.proofs.BreakStarts.{at_element}
-use Rattle.lx_caret_laws.proofs.EdgeEnd.{IsAround, around}
+use Rattle.lx_caret_laws.proofs.EdgeEnd.{IsAround, around, or_last}
 use Rattle.lx_caret_laws.proofs.InPlace.{apart_children, out_below, place-here, place-level}
 use Rattle.lx_caret_laws.proofs.JoinedIn.{IsSetIn, past, read_aside, read_joined, says, take_all}
 use Rattle.lx_caret_laws.proofs.ReadLevels.{read-level, reads-append, reads-same}
@@ -20,7 +20,7 @@ use Rattle.lx_text.proofs.Places.{length-none, length-some}
 use Rattle.lx_text.specs.Texts.{text_length}
 use Rattle.lx_trees.proofs.Siblings.{is_among-append}
 use Rattle.lx_trees.specs.Siblings.{NoRepeats, is_among}
-use Rattle.std.proofs.Common.{Bool, List, Some, [], ap, append-nil, append_assoc, ap₂, arith, false, inl, inr, refl, subst, sym, true, ℕ, ◌++◌, ◌+◌, ◌||◌, ◌∙◌, ◌∷◌, ◌≡◌, ◌≢◌}
+use Rattle.std.proofs.Common.{List, Some, [], ap, append-nil, append_assoc, ap₂, arith, false, inl, inr, refl, subst, sym, true, ℕ, ◌++◌, ◌+◌, ◌∙◌, ◌∷◌, ◌≡◌, ◌≢◌}
 use Rattle.std.proofs.lemmas.Bool.Decides.{eqb_tells}
 
 -- ---- lists
@@ -28,10 +28,6 @@ use Rattle.std.proofs.lemmas.Bool.Decides.{eqb_tells}
 none_of_length : (xs : List ℕ) → text_length xs ≡ 0 → xs ≡ []
 none_of_length [] e = refl
 none_of_length (x ∷ xs) e = absurd (omega (arith, e, length-some x xs))
-
-or_last : (a b : Bool) → b ≡ true → (a || b) ≡ true
-or_last true b e = refl
-or_last false b e = e
 
 -- ---- one level
 

@@ -1,36 +1,37 @@
 -- Lines of two parents that are joined: the step that joins them, and where the caret is.
 use Rattle.lx_blocks.proofs.Until.{filter_among, last_among, until_front, until_without}
-use Rattle.lx_blocks.specs.Blocks.{frame_of, is_at, leading}
+use Rattle.lx_blocks.specs.Blocks.{frame_of, is_at}
 use Rattle.lx_blocks.specs.Places.{until}
 use Rattle.lx_blocks.specs.Ranges.{lies}
-use Rattle.lx_caret.proofs.Fit.{after_tells}
 use Rattle.lx_caret.proofs.Lies.{both}
-use Rattle.lx_caret.specs.Deleting.{inline_end, inline_place, is_stop, join_step, line_joined, moved_in, stop_behind}
-use Rattle.lx_caret.specs.Removing.{removed_empty}
-use Rattle.lx_caret_laws.proofs.EdgeEnd.{IsAround, around, behind_more, behind_out, cut, cut_tree, later_child, nothing_after}
+use Rattle.lx_caret.specs.Deleting.{is_stop, join_step, line_joined, stop_behind}
+use Rattle.lx_caret_laws.proofs.EdgeEnd.{IsAround, around, behind_more, behind_out, cut, cut_tree, later_child, nothing_after, or_last}
+use Rattle.lx_caret_laws.proofs.JoinMoved.{has_moved}
 use Rattle.lx_caret_laws.proofs.EdgeStart.{nothing_before}
 use Rattle.lx_caret_laws.proofs.FarGone.{IsQuiet, removed_quiet}
 use Rattle.lx_caret_laws.proofs.FarRead.{IsLevel, read_both}
-use Rattle.lx_caret_laws.proofs.InPlace.{above_not_below, keys-level, out_below}
-use Rattle.lx_caret_laws.proofs.JoinMet.{deletes_joins, inline_all, joined_back, joined_on, leads_all, none_hold}
+use Rattle.lx_caret_laws.proofs.InPlace.{above_not_below, keys-level}
+use Rattle.lx_caret_laws.proofs.JoinMet.{deletes_joins, joined_back, joined_on}
 use Rattle.lx_caret_laws.proofs.JoinSteps.{in_block, in_line, index_within}
 use Rattle.lx_caret_laws.proofs.JoinedIn.{IsSetIn, at_end, from_first, from_second, read_aside, read_joined}
 use Rattle.lx_caret_laws.proofs.ReadLevels.{read-leaf}
+<<<<<<< HEAD
 use Rattle.lx_caret_laws.proofs.SilentBlocks.{element_of_block, silent_block}
 use Rattle.lx_caret_laws.proofs.Stops.{inline_below, line_children, no_stop_kind}
+=======
+use Rattle.lx_caret_laws.proofs.SilentBlocks.{element_of_block, silent_block}
+use Rattle.lx_caret_laws.proofs.Stops.{inline_below, no_stop_kind}
+>>>>>>> fd5aa150 (lx_caret_laws: both ways to join lines share how their children are moved)
 use Rattle.lx_caret_laws.proofs.TypedNew.{said_label}
-use Rattle.lx_caret_laws.proofs.WentIn.{MayGo, as_moved, caret_goes}
 use Rattle.lx_caret_laws.specs.Joining.{AreJoinedApart, Deletes, IsAtEdge, IsBehindAll, IsMetBack}
 use Rattle.lx_caret_laws.specs.Reading.{place_in, read_in, said}
 use Rattle.lx_draft.proofs.Gaps.{parent_here}
-use Rattle.lx_draft.specs.Faults.{after}
 use Rattle.lx_draft.specs.Selecting.{lies_in}
 use Rattle.lx_draft.specs.Working.{Working}
-use Rattle.lx_edit.specs.Edits.{element_point, pointed, remove_step, removed}
+use Rattle.lx_edit.specs.Edits.{element_point, remove_step, removed}
 use Rattle.lx_edit_laws.proofs.Reading.{spread}
-use Rattle.lx_edit_laws.proofs.WrapLists.{filter-gone}
-use Rattle.lx_edit_laws.proofs.WrapTurns.{WentOver, went_over}
-use Rattle.lx_forest.proofs.Lookups.{NoRepeats-children_of, is_among-children_of}
+use Rattle.lx_edit_laws.proofs.WrapTurns.{WentOver}
+use Rattle.lx_forest.proofs.Lookups.{is_among-children_of}
 use Rattle.lx_forest.proofs.Tops.{is_within-child}
 use Rattle.lx_forest.proofs.Up.{ancestors-agree, attached_above}
 use Rattle.lx_forest.proofs.Walks.{NoRepeats-preorder_of, is_among-preorder_of, is_attached-up}
@@ -41,20 +42,14 @@ use Rattle.lx_blocks.proofs.Blocked.{block_there, found_among}
 use Rattle.lx_forest.specs.Suited.{IsSuited, is_suited}
 use Rattle.lx_node.specs.Kinds.{is_element, is_inline, is_text_block}
 use Rattle.lx_node.specs.declared.cause.Point.{Point}
-use Rattle.lx_select.specs.Rules.{moved_to}
-use Rattle.lx_select.specs.Selection.{each_point}
 use Rattle.lx_select.specs.declared.selection.Selection.TheVariants.{Range}
 use Rattle.lx_text.specs.Texts.{text_length}
 use Rattle.lx_trees.proofs.Siblings.{is_among-append, is_among-names_without}
 use Rattle.lx_trees.specs.Siblings.{NoRepeats, is_among, is_named, names_without}
-use Rattle.std.proofs.Common.{Bool, List, None, Ok, Some, [], ap, append_assoc, ap₂, arith, cond, eqb, false, inl, inr, length, not, refl, subst, sym, true, ℕ, ◌++◌, ◌||◌, ◌∙◌, ◌∷◌, ◌≡◌, ◌≢◌, ◌≤◌, ◌⊎◌}
+use Rattle.std.proofs.Common.{Bool, List, None, Ok, Some, [], ap, append_assoc, arith, cond, false, inl, inr, subst, sym, true, ℕ, ◌++◌, ◌∙◌, ◌∷◌, ◌≡◌, ◌≢◌, ◌≤◌, ◌⊎◌}
 use Rattle.std.proofs.lemmas.Bool.Decides.{eqb_tells}
 use Rattle.std.proofs.lemmas.Bool.{cases_Bool}
 use Rattle.std.specs.Prelude.{filter}
-
-or_last : (a b : Bool) → b ≡ true → (a || b) ≡ true
-or_last true b e = refl
-or_last false b e = e
 
 module _ (first second : ℕ) (p : Point) (format : ℕ) (w v : Working) (met : IsMetBack first second w) where
   abbrev f : Forest
@@ -75,7 +70,9 @@ module _ (first second : ℕ) (p : Point) (format : ℕ) (w v : Working) (met : 
       ]
 
   two : first ≢ second
-  two e = absurd (let bad : false ≡ true = sym (until_without second (preorder f)) ∙ ap (λ x. is_among x (until (Some second) (preorder f))) (sym e) ∙ comes_first in cc)
+  two e =
+      let ks : List ℕ = until (Some second) (preorder f) in
+      absurd (let bad : false ≡ true = sym (until_without second (preorder f)) ∙ ap (λ x. is_among x ks) (sym e) ∙ comes_first in cc)
 
   -- a line isn't in another
   line_off : (a b : ℕ) → ((c : ℕ) → parent_of f c ≡ Some a → is_at is_inline f c ≡ true) → is_at is_text_block f b ≡ true → b ≢ a
@@ -106,35 +103,8 @@ module _ (first second : ℕ) (p : Point) (format : ℕ) (w v : Working) (met : 
   abbrev twos : List ℕ
   twos = children_of f second
 
-  index_is : inline_place f first second ≡ size_of f first
-  index_is =
-      ap (inline_end f 0 0) (none_hold f second ones (λ c among.
-      out_below f c first second h (parent_here f first c h among) first_off))
-      ∙ inline_all f 0 ones (line_children f first h met.first_line) ∙ omega arith
-
-  leading_is : leading f second ≡ twos
-  leading_is = leads_all f twos (line_children f second h met.second_line)
-
-  may : MayGo second first (size_of f first) twos w
-  may = record {
-    order = h;
-    apart = λ e. two (sym e);
-    once = NoRepeats-children_of f second h;
-    up = λ c among. parent_here f second c h among;
-    at = refl;
-  }
-
   abbrev there : Point
   there = element_point first (size_of f first)
-
-  -- where the caret goes
-  moved_own : (q : Point) → q.key ≡ second → moved_to second there q ≡ there
-  unfolding moved_to
-  moved_own q own = let on : eqb q.key second ≡ true = grind (arith, own, eqb_tells q.key second) in ap (λ t. cond t there q) on
-
-  moved_other : (q : Point) → q.key ≢ second → moved_to second there q ≡ q
-  unfolding moved_to
-  moved_other q other = let off : eqb q.key second ≡ false = grind (arith, other, eqb_tells q.key second) in ap (λ t. cond t there q) off
 
   silent : said f second ≡ []
   silent = silent_block f second met.suited met.second_line.kind
@@ -151,25 +121,15 @@ module _ (first second : ℕ) (p : Point) (format : ℕ) (w v : Working) (met : 
 
   pub left_apart : w.selection ≡ Range p p format → (p.key ≡ first → p.offset ≤ size_of f first) → (p.key ≢ second → is_within f p.key second ≡ false)
       → line_joined first second w ≡ Ok v → IsLeftApart
-  unfolding line_joined removed_empty remove_step
+  unfolding remove_step
   left_apart caret few outside e =
-      let e1 : after (moved_in first (size_of f first) twos w) (λ u. removed_empty second (pointed (moved_to second there) u)) ≡ Ok v =
-      sym (ap₂ (λ i ks. after (moved_in first i ks w) (λ u. removed_empty second (pointed (moved_to second (element_point first i)) u)))
-      index_is leading_is) ∙ e in
-      let a = after_tells (moved_in first (size_of f first) twos w) (λ u. removed_empty second (pointed (moved_to second there) u)) v e1 in
-      let u : Working = a.0 in
-      let z : Working = pointed (moved_to second there) u in
-      let g : Forest = u.forest in
-      let over : WentOver f g second first twos =
-      went_over second first twos w u h may.apart may.once may.up (as_moved second first (size_of f first) twos w u may a.1.0) in
-      let goes = caret_goes second first (size_of f first) twos p format w u may caret few a.1.0 in
-      let q : Point = goes.point in
-      let r : Point = moved_to second there q in
-      let at_r : z.selection ≡ Range r r format = ap (each_point (moved_to second there)) goes.is in
-      let empty : children_of g second ≡ [] =
-      over.left ∙ filter-gone (λ x. not (is_among x twos)) twos (λ x among. ap not among) in
-      let remove : removed second (ancestors g second) z ≡ Ok v =
-      sym (ap (λ ks. cond (eqb (length ks) 0) (removed second (ancestors g second) z) (Ok z)) empty) ∙ a.1.1 in
+      let t = has_moved first second p format w v
+      (record { order = h; one = met.first_line; two = met.second_line; apart = two; off = first_off; caret = caret; few = few }) e in
+      let z : Working = t.moved in
+      let g : Forest = z.forest in
+      let over : WentOver f g second first twos = t.over in
+      let r : Point = t.point in
+      let remove : removed second (ancestors g second) z ≡ Ok v = t.remove in
       let same_up : ancestors g second ≡ ancestors f second =
       ancestors-agree f g second h over.in_order (λ x among.
       let above : is_within f x second ≡ true = is_within-ancestors f x second h there_second ∙ among in
@@ -178,34 +138,23 @@ module _ (first second : ℕ) (p : Point) (format : ℕ) (w v : Working) (met : 
         | inr none ↦ none
       ] in
       over.up x ∙ ap (λ t. cond t (Some first) (parent_of f x)) out) in
-      let own_r : p.key ≡ second → r ≡ there = λ own. moved_own q (goes.stays.own own) in
-      let other_r : p.key ≢ second → r ≡ p = λ other.
-      ap (moved_to second there) (goes.stays.other other) ∙ moved_other p other in
       let out_r : is_within f r.key second ≡ false = elim (eqb_tells p.key second) [
-        | inl own ↦ ap (λ (x : Point). is_within f x.key second) (own_r own.1) ∙ first_off
-        | inr other ↦ ap (λ (x : Point). is_within f x.key second) (other_r other.1) ∙ outside other.1
+        | inl own ↦ ap (λ (x : Point). is_within f x.key second) (t.own own.1) ∙ first_off
+        | inr other ↦ ap (λ (x : Point). is_within f x.key second) (t.other other.1) ∙ outside other.1
       ] in
       let off : is_among r.key (second ∷ ancestors f second) ≡ false = sym (is_within-ancestors f r.key second h there_second) ∙ out_r in
       let suited : IsSuited g = record { each = λ x. ap is_suited (over.label x) ∙ met.suited.each x } in
-      let none : read_in g second ≡ [] = read-leaf g second over.in_order empty ∙ said_label f g second (over.label second) ∙ silent in
-      let quiet = removed_quiet (ancestors f second) second r format z v over.in_order suited same_up none at_r off
+      let none : read_in g second ≡ [] = read-leaf g second over.in_order t.empty ∙ said_label f g second (over.label second) ∙ silent in
+      let quiet = removed_quiet (ancestors f second) second r format z v over.in_order suited same_up none t.caret off
       (ap (λ ks. removed second ks z) (sym same_up) ∙ remove) in
       record {
-        moved = u;
+        moved = z;
         over = over;
-        empty = empty;
+        empty = t.empty;
         point = r;
-        own = own_r;
-        other = other_r;
-        quiet = record {
-          order = quiet.order;
-          labels = quiet.labels;
-          read = quiet.read;
-          children = quiet.children;
-          tops = quiet.tops;
-          gone = quiet.gone;
-          caret = quiet.caret;
-        };
+        own = t.own;
+        other = t.other;
+        quiet = quiet;
       }
 
   -- ---- what that means

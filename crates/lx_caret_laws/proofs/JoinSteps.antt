@@ -1,16 +1,15 @@
 -- Two lines that are joined: the step that joins them, and where the caret is.
 use Rattle.lx_blocks.proofs.Blocked.{block_within}
 use Rattle.lx_blocks.proofs.Steps.{attached_there}
-use Rattle.lx_blocks.specs.Blocks.{block_of, is_at, leading}
+use Rattle.lx_blocks.specs.Blocks.{block_of, is_at}
 use Rattle.lx_blocks.specs.Ranges.{lies}
-use Rattle.lx_caret.proofs.Fit.{after_tells}
 use Rattle.lx_caret.proofs.Lies.{both}
 use Rattle.lx_caret.proofs.Parents.{characters_no_element}
-use Rattle.lx_caret.specs.Deleting.{inline_end, inline_place, join_step, line_joined, moved_in}
-use Rattle.lx_caret.specs.Removing.{removed_empty}
+use Rattle.lx_caret.specs.Deleting.{join_step, line_joined}
 use Rattle.lx_caret_laws.proofs.Covers.{among_at}
 use Rattle.lx_caret_laws.proofs.EdgeEnd.{nothing_after}
 use Rattle.lx_caret_laws.proofs.EdgeStart.{IsInLine, nothing_before}
+<<<<<<< HEAD
 use Rattle.lx_caret_laws.proofs.InPlace.{apart_children, out_below}
 <<<<<<< HEAD
 use Rattle.lx_caret_laws.proofs.Joined.{LeftJoined, at_end, from_first, from_second, read_joined, read_others}
@@ -23,20 +22,29 @@ use Rattle.lx_caret_laws.proofs.SilentBlocks.{element_of_block, silent_block}
 >>>>>>> ad759e37 (lx_caret_laws: what is read where lines of two parents are joined)
 use Rattle.lx_caret_laws.proofs.Stops.{AreThere, apart, line_children, met_back, met_on, once, up_first, up_second}
 use Rattle.lx_caret_laws.proofs.WentIn.{MayGo, as_moved, caret_goes, take_caret}
+=======
+use Rattle.lx_caret_laws.proofs.InPlace.{apart_children}
+use Rattle.lx_caret_laws.proofs.FarGone.{none_on}
+use Rattle.lx_caret_laws.proofs.JoinMoved as moved
+use Rattle.lx_caret_laws.proofs.JoinMoved.{has_moved}
+use Rattle.lx_caret_laws.proofs.Joined.{LeftJoined, read_line, read_others, set_in}
+use Rattle.lx_caret_laws.proofs.JoinedIn.{IsSetIn, at_end, from_first, from_second}
+use Rattle.lx_caret_laws.proofs.SilentBlocks.{element_of_block, silent_block}
+use Rattle.lx_caret_laws.proofs.Stops.{AreThere, apart, met_back, met_on, once, up_first, up_second}
+use Rattle.lx_caret_laws.proofs.WentIn.{take_caret}
+>>>>>>> fd5aa150 (lx_caret_laws: both ways to join lines share how their children are moved)
 use Rattle.lx_caret_laws.proofs.WentOut.{without_middle}
 use Rattle.lx_caret_laws.specs.Carets.{IsSound}
 use Rattle.lx_caret_laws.specs.Joining.{AreJoined, AreLines, Deletes, IsAtEdge, IsBehindAll, IsLine}
 use Rattle.lx_caret_laws.specs.Reading.{place_in, read_in, said}
 use Rattle.lx_draft.proofs.Gaps.{parent_here}
-use Rattle.lx_draft.specs.Faults.{after}
 use Rattle.lx_draft.specs.Selecting.{is_counted_in, is_place, lies_in}
 use Rattle.lx_draft.specs.Steps.{take_step}
 use Rattle.lx_draft.specs.Working.{Working}
 use Rattle.lx_edit.proofs.Climbed.{sent_away-apart}
-use Rattle.lx_edit.specs.Edits.{element_point, pointed, remove_step, sent_away}
-use Rattle.lx_edit_laws.proofs.WrapLists.{filter-gone}
-use Rattle.lx_edit_laws.proofs.WrapTurns.{WentOver, left_alone, removed_alone, went_over}
-use Rattle.lx_forest.proofs.Lookups.{NoRepeats-children_of, children_of-take_out, has-child, is_among-children_of, label_of-take_out, parent_of-self}
+use Rattle.lx_edit.specs.Edits.{element_point, remove_step, sent_away}
+use Rattle.lx_edit_laws.proofs.WrapTurns.{WentOver, left_alone, removed_alone}
+use Rattle.lx_forest.proofs.Lookups.{children_of-take_out, has-child, is_among-children_of, label_of-take_out, parent_of-self}
 use Rattle.lx_forest.proofs.Order.{IsForest-take_out}
 use Rattle.lx_forest.proofs.Up.{attached_above}
 use Rattle.lx_forest.proofs.Walks.{is_attached-up}
@@ -49,15 +57,14 @@ use Rattle.lx_node.specs.Kinds.{is_element}
 use Rattle.lx_node.specs.declared.cause.Point.{Point}
 use Rattle.lx_node.specs.declared.cause.PointKind.TheVariants as point
 use Rattle.lx_node.specs.declared.cause.PointKind.{PointKind}
-use Rattle.lx_select.specs.Rules.{moved_to}
-use Rattle.lx_select.specs.Selection.{each_point, has_point_on}
+use Rattle.lx_select.specs.Selection.{has_point_on}
 use Rattle.lx_select.specs.declared.selection.Selection.TheVariants.{Range}
 use Rattle.lx_text.specs.Texts.{text_length}
 use Rattle.lx_trees.proofs.Siblings.{names_without-absent_list}
 use Rattle.lx_trees.specs.Siblings.{NoRepeats, is_among, names_without}
-use Rattle.std.proofs.Common.{List, Ok, Some, [], ap, append_assoc, ap₂, arith, cond, eqb, false, inl, inr, length, not, refl, subst, sym, true, ℕ, ◌&&◌, ◌++◌, ◌||◌, ◌∙◌, ◌∷◌, ◌≡◌, ◌≢◌, ◌≤◌}
+use Rattle.std.proofs.Common.{List, Ok, Some, [], ap, append_assoc, arith, cond, false, inl, inr, subst, sym, true, ℕ, ◌&&◌, ◌++◌, ◌∙◌, ◌∷◌, ◌≡◌, ◌≢◌, ◌≤◌}
 use Rattle.std.proofs.lemmas.Bool.Decides.{eqb_tells, nat_tests}
-use Rattle.lx_caret_laws.proofs.JoinMet.{deletes_joins, inline_all, joined_back, joined_on, leads_all, none_hold}
+use Rattle.lx_caret_laws.proofs.JoinMet.{deletes_joins, joined_back, joined_on}
 
 -- ---- the step
 
@@ -115,63 +122,18 @@ module _ (parent first second : ℕ) (before rest : List ℕ) (p : Point) (forma
       apart_children f first second parent second h above_first above_second two
       (is_within-self f second ∙ has-child f second parent above_second)
 
-  index_is : inline_place f first second ≡ size_of f first
-  index_is =
-      ap (inline_end f 0 0) (none_hold f second ones (λ c among.
-      let up : parent_of f c ≡ Some first = parent_here f first c h among in
-      out_below f c first second h up off_second))
-      ∙ inline_all f 0 ones (line_children f first h l.one) ∙ omega arith
-
-  leading_is : leading f second ≡ twos
-  leading_is = leads_all f twos (line_children f second h l.two)
-
-  may : MayGo second first (size_of f first) twos w
-  may = record {
-    order = h;
-    apart = λ e. two (sym e);
-    once = NoRepeats-children_of f second h;
-    up = λ c among. parent_here f second c h among;
-    at = refl;
-  }
-
   abbrev there : Point
   there = element_point first (size_of f first)
 
-  moved_key : (q : Point) → (moved_to second there q).key ≢ second
-  unfolding moved_to
-  moved_key q = elim (eqb_tells q.key second) [
-    | inl own ↦ λ e. two (sym (ap (λ t. (cond t there q).key) own.0) ∙ e)
-    | inr other ↦ λ e. other.1 (sym (ap (λ t. (cond t there q).key) other.0) ∙ e)
-  ]
-
-  moved_own : (q : Point) → q.key ≡ second → moved_to second there q ≡ there
-  unfolding moved_to
-  moved_own q own = let on : eqb q.key second ≡ true = grind (arith, own, eqb_tells q.key second) in ap (λ t. cond t there q) on
-
-  moved_other : (q : Point) → q.key ≢ second → moved_to second there q ≡ q
-  unfolding moved_to
-  moved_other q other = let off : eqb q.key second ≡ false = grind (arith, other, eqb_tells q.key second) in ap (λ t. cond t there q) off
-
   pub line_left : line_joined first second w ≡ Ok v → IsLeft parent first second before rest p format w v
-  unfolding line_joined removed_empty
   line_left e =
-      let e1 : after (moved_in first (size_of f first) twos w) (λ u. removed_empty second (pointed (moved_to second there) u)) ≡ Ok v =
-      sym (ap₂ (λ i ks. after (moved_in first i ks w) (λ u. removed_empty second (pointed (moved_to second (element_point first i)) u)))
-      index_is leading_is) ∙ e in
-      let a = after_tells (moved_in first (size_of f first) twos w) (λ u. removed_empty second (pointed (moved_to second there) u)) v e1 in
-      let u : Working = a.0 in
-      let z : Working = pointed (moved_to second there) u in
-      let g : Forest = u.forest in
-      let over : WentOver f g second first twos =
-      went_over second first twos w u h may.apart may.once may.up (as_moved second first (size_of f first) twos w u may a.1.0) in
-      let goes = caret_goes second first (size_of f first) twos p format w u may m.caret m.few a.1.0 in
-      let q : Point = goes.point in
-      let r : Point = moved_to second there q in
-      let at_r : z.selection ≡ Range r r format = ap (each_point (moved_to second there)) goes.is in
-      let empty : children_of g second ≡ [] =
-      over.left ∙ filter-gone (λ x. not (is_among x twos)) twos (λ x among. ap not among) in
-      let remove : remove_step second z ≡ Ok v =
-      sym (ap (λ ks. cond (eqb (length ks) 0) (remove_step second z) (Ok z)) empty) ∙ a.1.1 in
+      let t = has_moved first second p format w v
+      (record { order = h; one = l.one; two = l.two; apart = two; off = off_second; caret = m.caret; few = m.few }) e in
+      let z : Working = t.moved in
+      let g : Forest = z.forest in
+      let over : WentOver f g second first twos = t.over in
+      let r : Point = t.point in
+      let remove : remove_step second z ≡ Ok v = t.remove in
       let up_g : parent_of g second ≡ Some parent =
       over.up second ∙ ap (λ t. cond t (Some first) (parent_of f second)) (is_among-children_of f second second h ∙ parent_of-self f second h)
       ∙ above_second in
@@ -179,17 +141,13 @@ module _ (parent first second : ℕ) (before rest : List ℕ) (p : Point) (forma
       let among_first : is_among first (children_of g parent) ≡ true = ap (is_among first) still ∙ among_at before first (second ∷ rest) in
       let taken : take_step second (sent_away second z) ≡ Ok v = left_alone second parent first z v over.in_order up_g among_first two remove in
       let forest : v.forest ≡ take_out second g = removed_alone second parent first z v over.in_order up_g among_first two remove in
-      let off_r : r.key ≢ second = moved_key q in
-      let no_point : has_point_on second z.selection ≡ false =
-      ap (has_point_on second) at_r ∙ none_on r off_r in
+      let off_r : r.key ≢ second = moved.off_second first second p format w v two t in
+      let no_point : has_point_on second z.selection ≡ false = ap (has_point_on second) t.caret ∙ none_on second r off_r in
       let sent : sent_away second z ≡ z = sent_away-apart second z no_point in
-      let last = take_caret parent second r format z v up_g at_r (ap (take_step second) (sym sent) ∙ taken) in
+      let last = take_caret parent second r format z v up_g t.caret (ap (take_step second) (sym sent) ∙ taken) in
       let off_parent : r.key ≢ parent = elim (eqb_tells p.key second) [
-        | inl own ↦ λ e. not_first (sym e ∙ ap (λ (x : Point). x.key) (moved_own q (goes.stays.own own.1)))
-        | inr other ↦
-            let same : q ≡ p = goes.stays.other other.1 in
-            let same_r : r ≡ p = ap (moved_to second there) same ∙ moved_other p other.1 in
-            λ e. m.off (sym (ap (λ (x : Point). x.key) same_r) ∙ e)
+        | inl own ↦ λ e. not_first (sym e ∙ ap (λ (x : Point). x.key) (t.own own.1))
+        | inr other ↦ λ e. m.off (sym (ap (λ (x : Point). x.key) (t.other other.1)) ∙ e)
       ] in
       let final : v.selection ≡ Range r r format = last.is ∙ ap (λ x. Range x x format) (last.stays.other off_parent) in
       let moved_order : before ++ (first ∷ (second ∷ rest)) ≡ (before ++ (first ∷ [])) ++ (second ∷ rest) =
@@ -209,12 +167,9 @@ module _ (parent first second : ℕ) (before rest : List ℕ) (p : Point) (forma
             ∙ append_assoc before (first ∷ []) rest;
         others = λ x a b c.
             ap (λ y. children_of y x) forest ∙ children_of-take_out second g x over.in_order ∙ absent x a ∙ over.others x c b;
-        at_second = λ own. final ∙ ap (λ x. Range x x format) (moved_own q (goes.stays.own own));
-        elsewhere = λ other.
-            final ∙ ap (λ x. Range x x format) (ap (moved_to second there) (goes.stays.other other) ∙ moved_other p other);
-      } where
-        none_on : (r : Point) → r.key ≢ second → (eqb r.key second || eqb r.key second) ≡ false
-        none_on r off = grind (arith, off, eqb_tells r.key second)
+        at_second = λ own. final ∙ ap (λ x. Range x x format) (t.own own);
+        elsewhere = λ other. final ∙ ap (λ x. Range x x format) (t.other other);
+      }
 
   -- ---- what that means
 

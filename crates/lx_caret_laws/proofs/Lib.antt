@@ -27,6 +27,7 @@ pub mod GoneUp
 pub mod InBlocks
 pub mod InPlace
 pub mod JoinMet
+pub mod JoinMoved
 pub mod JoinSteps
 pub mod JoinTold
 pub mod Joined
