@@ -235,11 +235,12 @@ module _ (first second : ℕ) (p : Point) (format : ℕ) (w v : Working) (met : 
     pub are_apart : AreJoinedApart first second w v
     are_apart = record {
       read = read_joined f v.forest first second set_left;
+      children = set_left.joined;
       gone = l.quiet.gone;
       around = λ b one two_in same.
           l.quiet.read b
           ∙ read_both f g first second set_moved l.empty (λ q a c. l.over.others q c a) in_order b one two_in same;
-      aside = λ b one two_in. l.quiet.read b ∙ read_aside f g first second set_moved b one two_in;
+      aside = λ b one two_in. (read_aside f v.forest first second set_left b one two_in, set_left.children_aside b one two_in);
       labels = set_left.labels;
     }
 

@@ -25,8 +25,8 @@ pub record IsLine (f : Forest) (k : ℕ) : Type 0 where
   pub kind : is_at is_text_block f k ≡ true
   pub inline : (c : ℕ) → parent_of f c ≡ Some k → is_at is_inline f c ≡ true
 
--- in a draft in which the fields of each node are of its kind, as they always are, two lines are children of one node: the second
--- comes right after the first, and others come before and behind them
+-- Two lines are children of one node, with others before and behind them: the second comes right after the first. The fields of
+-- each node are of its kind, as they always are.
 pub record AreLines (parent first second : ℕ) (w : Working) : Type 0 where
   pub sound : IsSound w
   pub suited : IsSuited w.forest
@@ -61,7 +61,7 @@ pub record IsBehindAll (k format : ℕ) (w v : Working) : Type 0 where
   pub inside : is_within v.forest k point.key ≡ true
   pub place : place_in v.forest k point ≡ text_length (read_in w.forest k)
 
--- in such a draft a line is what deleting back at the start of another meets, wherever the two are
+-- A line is what deleting back at the start of another meets, wherever the two are. The fields of each node are of its kind.
 pub record IsMetBack (first second : ℕ) (w : Working) : Type 0 where
   pub sound : IsSound w
   pub suited : IsSuited w.forest
@@ -69,16 +69,18 @@ pub record IsMetBack (first second : ℕ) (w : Working) : Type 0 where
   pub second_line : IsLine w.forest second
   pub met : stop_before w.forest second ≡ Some first
 
--- A line was joined with another, wherever the two are: the first reads what both read, one after the other, and the second has no
--- parent any more. In each node that holds both the same is read as before, if nothing was read in it between the end of the first
--- and the start of the second. In each that holds neither the same is read too. Every node has its label.
+-- A line was joined with another, wherever the two are: the first reads what both read, one after the other, and has the children of
+-- both. The second has no parent any more. A node that holds both reads the same as before, if it read nothing between the end of
+-- the first and the start of the second. One that holds neither reads the same too, and has its children. Every node has its label.
 pub record AreJoinedApart (first second : ℕ) (w v : Working) : Type 0 where
   pub read : read_in v.forest first ≡ read_in w.forest first ++ read_in w.forest second
+  pub children : children_of v.forest first ≡ children_of w.forest first ++ children_of w.forest second
   pub gone : parent_of v.forest second ≡ None
   pub around : (b : ℕ) → is_within w.forest b first ≡ true → is_within w.forest b second ≡ true
       → place_in w.forest b (element_point first (size_of w.forest first)) ≡ place_in w.forest b (element_point second 0)
       → read_in v.forest b ≡ read_in w.forest b
-  pub aside : (b : ℕ) → is_within w.forest b first ≡ false → is_within w.forest b second ≡ false → read_in v.forest b ≡ read_in w.forest b
+  pub aside : (b : ℕ) → is_within w.forest b first ≡ false → is_within w.forest b second ≡ false →
+      (read_in v.forest b ≡ read_in w.forest b) × (children_of v.forest b ≡ children_of w.forest b)
   pub labels : (q : ℕ) → label_of v.forest q ≡ label_of w.forest q
 
 -- A rule went: it is no child any more, every node has its label, and the same is read in each as before.
