@@ -1,40 +1,23 @@
 -- An element says nothing itself, where the fields of each node are of its kind.
 use Rattle.lx_blocks.specs.Blocks.{is_at, passes}
+use Rattle.lx_caret_laws.proofs.Silent.{silent_at}
 use Rattle.lx_caret_laws.specs.Reading.{said}
-use Rattle.lx_draft.specs.Selecting.{text_of}
-use Rattle.lx_forest.specs.Forest.{Forest, Label}
-use Rattle.lx_forest.specs.Lookups.{kind_of, label_of}
-use Rattle.lx_forest.specs.Suited.{IsSuited, is_suited}
-use Rattle.lx_node.specs.Kinds.{is_element, is_possible, is_text_block}
-use Rattle.lx_node.specs.OfKind.{fits_kind, is_element_of, is_of_kind}
-use Rattle.lx_node.specs.declared.fields.Fields.TheVariants as fields
-use Rattle.lx_node.specs.declared.fields.Fields.{Fields}
-use Rattle.lx_node.specs.declared.fields.TextFields.{TextFields}
+use Rattle.lx_forest.specs.Forest.{Forest}
+use Rattle.lx_forest.specs.Lookups.{kind_of}
+use Rattle.lx_forest.specs.Suited.{IsSuited}
+use Rattle.lx_node.specs.Kinds.{has_characters, is_element, is_text_block}
 use Rattle.lx_node.specs.declared.kind.Kind.TheVariants as kinds
 use Rattle.lx_node.specs.declared.kind.Kind.{Kind}
-use Rattle.std.proofs.Common.{None, Option, Some, [], arith, false, option_map, refl, true, ℕ, ◌≡◌}
+use Rattle.std.proofs.Common.{None, Option, Some, [], ap, false, refl, sym, true, ℕ, ◌∙◌, ◌≡◌}
 
-no_text : (kind : Kind) (text : TextFields) → is_element kind ≡ true → is_of_kind kind (fields.Text text) ≡ false
-unfolding is_element is_of_kind fits_kind is_element_of is_possible
-no_text kinds.Text text e = absurd (cc)
-no_text kinds.Tab text e = absurd (cc)
-no_text kinds.Break text e = absurd (cc)
-no_text kinds.Rule text e = absurd (cc)
-no_text kinds.Embed text e = absurd (cc)
-no_text (kinds.Heading level) text e = grind arith
-no_text kind text e = refl
-
-none_said : (kind : Kind) (x : Fields) → is_element kind ≡ true → is_of_kind kind x ≡ true → text_of (Some x) ≡ []
-none_said kind (fields.Text text) e fits = let none = no_text kind text e in absurd (cc)
-none_said kind x e fits = refl
-
-none_labelled : (o : Option Label) → is_suited o ≡ true → passes is_element (option_map (λ (l : Label). l.kind) o) ≡ true
-    → text_of (option_map (λ (l : Label). l.fields) o) ≡ []
-none_labelled None suited e = refl
-none_labelled (Some l) suited e = none_said l.kind l.fields e suited
+element_plain : (kind : Kind) → is_element kind ≡ true → has_characters kind ≡ false
+unfolding is_element has_characters
+element_plain kinds.Text e = absurd (cc)
+element_plain kinds.Tab e = absurd (cc)
+element_plain kind e = refl
 
 pub silent_element : (f : Forest) (k : ℕ) → IsSuited f → is_at is_element f k ≡ true → said f k ≡ []
-silent_element f k suited e = none_labelled (label_of f k) (suited.each k) e
+silent_element f k suited e = silent_at f k suited (λ kind is. element_plain kind (sym (ap (passes is_element) is) ∙ e))
 
 block_element : (kind : Kind) → is_text_block kind ≡ true → is_element kind ≡ true
 unfolding is_text_block is_element
