@@ -15,7 +15,6 @@ use Rattle.lx_node.specs.declared.cause.Point.{Point}
 use Rattle.lx_select.specs.declared.selection.Selection.{Selection}
 use Rattle.lx_select.specs.Selection.{each_point, has_point_on}
 use Rattle.lx_select.specs.Rules.{moved_to}
-use Rattle.lx_select.proofs.Apart.{moved_to-apart}
 use Rattle.lx_forest.specs.Forest.{Forest, Label}
 use Rattle.lx_forest.specs.Lookups.{has, label_of, parent_of, children_of, is_within, is_attached, IsForest, IsHeld}
 use Rattle.lx_forest.specs.Edits.{take_out}
@@ -41,7 +40,8 @@ use Rattle.lx_blocks.specs.Blocks.{passes, is_at, is_line}
 use Rattle.lx_list.specs.Dissolving.{emptied_into, paragraph_made, dissolved, dissolved_if, is_in_item, is_outermost, outermost_above, dissolved_around}
 use Rattle.lx_list_laws.specs.Reading.{IsSound}
 use Rattle.lx_list_laws.specs.Returning.{BecomesList, StandsFor}
-use Rattle.lx_list_laws.proofs.BlockMade.{label_new, label_before, label_each, each_stays, IsMade, no_item_above}
+use Rattle.lx_list_laws.proofs.BlockMade.{label_new, label_before, label_each, IsMade, no_item_above}
+use Rattle.lx_list_laws.proofs.BlockPoints.{starts_each, sent_off, sent_off_other, sent_start}
 use Rattle.lx_list_laws.proofs.BlockSelected.{IsInlineBlock, all-one, inline_in, line}
 use Rattle.lx_list_laws.proofs.LevelPoints.{before_stays, removed_stays}
 use Rattle.lx_list_laws.proofs.LevelSteps.{was_made}
@@ -49,7 +49,7 @@ use Rattle.lx_list_laws.proofs.ReadDissolved.{lines_of, among_lines, within_belo
 use Rattle.lx_list_laws.proofs.ReadEdits.{so_at, parent_made}
 use Rattle.lx_list_laws.proofs.ReadLines.{inline_no_block, list_no_line}
 use Rattle.lx_list_laws.proofs.ReadSaid.{inlines, IsSaid, is_said}
-use Rattle.lx_list_laws.proofs.ReadSound.{sound_path}
+use Rattle.lx_list_laws.proofs.ReadSound.{sound_path, is_free}
 use Rattle.lx_list_laws.proofs.StayBetween.{below}
 
 -- ---- lists of names
@@ -268,11 +268,13 @@ stands_undone f type p b list item v u sound s t =
     let is : u.forest ≡ take_out list x = removed_alone list p n t.mid u a.told.behind (a.up ∙ s.made.list_up) among other t.removed in
     stands f g type p b list item s x u.forest n a (λ q. label_paragraph list item v t.mid q sound t.paragraph) is
 
--- where no point is on the nodes concerned, all stay where they are
-paragraph_points : (list item p : ℕ) (t : Selection) (w v : Working) → IsSound w → parent_of w.forest list ≡ Some p → paragraph_made list item w ≡ Ok v
-    → w.selection ≡ t → has_point_on p t ≡ false → has_point_on item t ≡ false → has_point_on w.next_key t ≡ false → v.selection ≡ t
+-- points on the item go to the start of the paragraph, and all others stay
+paragraph_points : (list item p : ℕ) (t : Selection) (w v : Working) → IsSound w → parent_of w.forest list ≡ Some p → has item w.forest ≡ true
+    → paragraph_made list item w ≡ Ok v
+    → w.selection ≡ t → has_point_on p t ≡ false → has_point_on w.next_key t ≡ false
+    → v.selection ≡ each_point (moved_to item (element_point w.next_key 0)) t
 unfolding paragraph_made emptied_into
-paragraph_points list item p t w v s up e is off_p off_item off_new =
+paragraph_points list item p t w v s up there e is off_p off_new =
     let n : ℕ = w.next_key in
     let a = first_part (new_step Paragraph plain_element w) (λ o. after (put_before_step n list o) (emptied_into n item)) v e in
     let b = first_part (put_before_step n list a.0) (emptied_into n item) v a.2 in
@@ -283,17 +285,16 @@ paragraph_points list item p t w v s up e is off_p off_item off_new =
     before_stays n list p a.0 b.0 made.sound.ready.in_order (parent_made Paragraph plain_element w a.0 list s a.1 ∙ up) b.1 (ap (has_point_on p) first ∙ off_p)
     ∙ first in
     let to : Point = element_point n 0 in
-    let sent : (pointed (moved_to item to) b.0).selection ≡ t = ap (each_point (moved_to item to)) second ∙ moved_to-apart item to t off_item in
-    each_stays n item (inlines b.0.forest item) t (pointed (moved_to item to) b.0) v h
+    let other : n ≢ item = λ same. absurd (grind (arith, there, same, is_free w s)) in
+    starts_each n item (inlines b.0.forest item) (each_point (moved_to item to) t) (pointed (moved_to item to) b.0) v h
     (NoRepeats-filter (is_at is_inline b.0.forest) (children_of b.0.forest item) (NoRepeats-children_of b.0.forest item h))
     (λ q among. parent_here b.0.forest item q h (grind (arith, is_among-filter (is_at is_inline b.0.forest) q (children_of b.0.forest item), among))) b.2
-    off_item off_new sent
+    (ap (each_point (moved_to item to)) second) (sent_off item to t other) (sent_start item n t off_new)
 
 pub points_undone : (f : Forest) (type : ListType) (p b list item : ℕ) (t : Selection) (v u : Working) → IsSound v → IsListed f v.forest type p b list item
-    → IsUndone list item v u → v.selection ≡ t → has_point_on p t ≡ false → has_point_on list t ≡ false → has_point_on item t ≡ false
-    → has_point_on v.next_key t ≡ false
-    → u.selection ≡ t
-points_undone f type p b list item t v u sound s done is off_p off_list off_item off_new =
+    → IsUndone list item v u → v.selection ≡ t → has_point_on p t ≡ false → has_point_on list t ≡ false → has_point_on v.next_key t ≡ false
+    → u.selection ≡ each_point (moved_to item (element_point v.next_key 0)) t
+points_undone f type p b list item t v u sound s done is off_p off_list off_new =
     let g : Forest = v.forest in
     let n : ℕ = v.next_key in
     let x : Forest = done.mid.forest in
@@ -303,7 +304,10 @@ points_undone f type p b list item t v u sound s done is off_p off_list off_item
     let among : is_among n (children_of x p) ≡ true =
     ap (is_among n) a.here ∙ is_among-names_with (Some list) (n ∷ []) (children_of g p) n ∙ grind (arith, eqb_tells n n) in
     let other : n ≢ list = λ same. absurd (grind (arith, same, a.free, has-child g list p s.made.list_up)) in
-    let mid : done.mid.selection ≡ t = paragraph_points list item p t v done.mid sound s.made.list_up done.paragraph is off_p off_item off_new in
-    removed_stays list p n done.mid u a.told.behind (a.up ∙ s.made.list_up) among other done.removed (ap (has_point_on list) mid ∙ off_list)
-    (ap (has_point_on p) mid ∙ off_p)
+    let not_p : n ≢ p = λ same. absurd (grind (arith, same, a.free, has-parent_of g list p s.made.list_up)) in
+    let to : Point = element_point n 0 in
+    let mid : done.mid.selection ≡ each_point (moved_to item to) t =
+    paragraph_points list item p t v done.mid sound s.made.list_up item_there done.paragraph is off_p off_new in
+    removed_stays list p n done.mid u a.told.behind (a.up ∙ s.made.list_up) among other done.removed
+    (ap (has_point_on list) mid ∙ sent_off_other item list to t other off_list) (ap (has_point_on p) mid ∙ sent_off_other item p to t not_p off_p)
     ∙ mid

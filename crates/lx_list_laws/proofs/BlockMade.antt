@@ -43,7 +43,8 @@ use Rattle.lx_list.specs.Making.{list_fields, item_fields, unchecked}
 use Rattle.lx_list.specs.Listing.{is_list_of, item_made, list_made, itemized, listed}
 use Rattle.lx_list_laws.specs.Reading.{IsSound}
 use Rattle.lx_list_laws.specs.Returning.{BecomesList}
-use Rattle.lx_list_laws.proofs.LevelPoints.{put_stays, before_stays, to_end_stays, removed_stays}
+use Rattle.lx_list_laws.proofs.BlockPoints.{MovesOn, moves_each, GoesAlong, goes_along, left_first, still_off}
+use Rattle.lx_list_laws.proofs.LevelPoints.{put_stays, before_stays, removed_stays}
 use Rattle.lx_list_laws.proofs.LevelSteps.{was_made}
 use Rattle.lx_list_laws.proofs.ReadEdits.{parent_made, born_at, born_last}
 use Rattle.lx_list_laws.proofs.ReadForests.{CameNew, came_here, came_elsewhere, came_empty}
@@ -199,30 +200,8 @@ pub record BecameList (w v : Working) (type : ListType) (p b : ℕ) : Type 1 whe
   pub is : IsMade w.forest v.forest type p b list item
   -- points go along
   pub keys : (P Q : ℕ → Type 0) → (P b → Q item) → ((q : ℕ) → q ≢ b → P q → Q q) → EachKey P w → EachKey Q v
-  pub points : (s : Selection) → w.selection ≡ s → has_point_on p s ≡ false → has_point_on b s ≡ false → has_point_on list s ≡ false
-      → has_point_on item s ≡ false → v.selection ≡ s
-
--- points stay where they are as nodes move to the end of another, where none is on that and none on the one that they leave
-pub each_stays : (to from : ℕ) (ks : List ℕ) (s : Selection) (w v : Working) → IsForest w.forest → NoRepeats ks
-    → ((q : ℕ) → is_among q ks ≡ true → parent_of w.forest q ≡ Some from)
-    → in_turn (moved_to_end to) ks w ≡ Ok v → has_point_on from s ≡ false → has_point_on to s ≡ false → w.selection ≡ s → v.selection ≡ s
-unfolding in_turn
-each_stays to from [] s w v h once up e off off_to is = ap (λ (x : Working). x.selection) (sym (was_same w v e)) ∙ is
-each_stays to from (k ∷ ks) s w v h once up e off off_to is =
-    let a = first_part (moved_to_end to k w) (in_turn (moved_to_end to) ks) v e in
-    let m = was_moved_to_end to k w a.0 a.1 in
-    let one : a.0.selection ≡ s =
-    to_end_stays to k from w a.0 a.1 (up k (grind (arith, eqb_tells k k))) (ap (has_point_on from) is ∙ off) (ap (has_point_on to) is ∙ off_to) ∙ is in
-    each_stays to from ks s a.0 v (IsForest-moved w.forest a.0.forest to k None h m) once.1 (λ q among.
-    let other : eqb q k ≡ false = grind (arith, among, once.0, eqb_tells q k) in
-    parent_of-moved w.forest a.0.forest to k None h m q ∙ ap (λ t. cond t (Some to) (parent_of w.forest q)) other ∙ up q (grind (arith, among))) a.2 off
-    off_to one
-
-carried_apart : (k : ℕ) (moved : Point → Point) (s : Selection) → has_point_on k s ≡ false → carried k moved (ends_of s) s ≡ s
-carried_apart k moved (Range a b format) off = grind (arith, off)
-carried_apart k moved Nothing off = refl
-carried_apart k moved (Nodes keys) off = refl
-carried_apart k moved (Cells x y z) off = refl
+  pub points : (s : Selection) → w.selection ≡ s → has_point_on p s ≡ false → has_point_on list s ≡ false → has_point_on item s ≡ false
+      → GoesAlong b item s v.selection
 
 -- the drafts in between, and the edits that led from one to the next
 record IsMadeBy (type : ListType) (b : ℕ) (w v : Working) : Type 0 where
@@ -342,7 +321,7 @@ became_by type p b w v s up o =
           (keys_sent Q b p o.three all.over.in_order up_three
           (each_still (λ x. Q x.key × (x.key ≢ b)) (λ x. Sends Q o.three.forest b p x.key) o.three.selection
           (λ x so. record { here = λ same. absurd (so.1 same); away = λ away. so.0 }) along));
-      points = λ t is_t off_p off_b off_list off_item.
+      points = λ t is_t off_p off_list off_item.
           let first : o.one.selection ≡ t =
           before_stays list b p o.first o.one made.sound.ready.in_order (parent_made (ListKind type) list_fields w o.first b s o.new_list ∙ up) o.put_list
           (ap (has_point_on p) ((was_made (ListKind type) list_fields w o.first o.new_list).selection ∙ is_t) ∙ off_p)
@@ -350,16 +329,18 @@ became_by type p b w v s up o =
           let before : o.next.selection ≡ t = (was_made Item fields o.one o.next o.new_item).selection ∙ first in
           let second : o.two.selection ≡ t =
           put_stays item list (size_of o.next.forest list) o.next o.two o.put_item (ap (has_point_on list) before ∙ off_list) ∙ before in
-          let moved : went.mid.selection ≡ t =
-          each_stays item b (children_of o.two.forest b) t o.two went.mid d.told.behind (NoRepeats-children_of o.two.forest b d.told.behind)
-          (λ q among. parent_here o.two.forest b q d.told.behind among) went.moved off_b off_item second in
-          let third : o.three.selection ≡ t =
-          ap (λ (x : Working). x.selection) (sym went.is)
-          ∙ ap₂ (λ x y. carried b (carry_moves b item (size_of o.two.forest item)) (ends_of x) y) second moved
-          ∙ carried_apart b (carry_moves b item (size_of o.two.forest item)) t off_b in
-          removed_stays b p list o.three v all.over.in_order up_three stands other o.remove (ap (has_point_on b) third ∙ off_b)
-          (ap (has_point_on p) third ∙ off_p)
-          ∙ third;
+          let moved : MovesOn b item o.two.selection went.mid.selection =
+          moves_each item b (children_of o.two.forest b) o.two went.mid d.told.behind (NoRepeats-children_of o.two.forest b d.told.behind)
+          (λ q among. parent_here o.two.forest b q d.told.behind among) went.moved in
+          let along : GoesAlong b item o.two.selection o.three.selection =
+          subst (λ (x : Working). GoesAlong b item o.two.selection x.selection) went.is
+          (goes_along b item (size_of o.two.forest item) o.two.selection went.mid.selection moved) in
+          let third : GoesAlong b item t o.three.selection = subst (λ x. GoesAlong b item x o.three.selection) second along in
+          let not_p : p ≢ item = λ same. absurd (grind (arith, ap (λ k. has k f) same, free, has-parent_of f b p up)) in
+          let same : v.selection ≡ o.three.selection =
+          removed_stays b p list o.three v all.over.in_order up_three stands other o.remove (left_first b item t o.three.selection third apart off_item)
+          (still_off b item p t o.three.selection third not_p off_item off_p) in
+          subst (GoesAlong b item t) (sym same) third;
     }
 
 pub became_list : (type : ListType) (p b : ℕ) (w v : Working) → IsSound w → parent_of w.forest b ≡ Some p → list_made type b w ≡ Ok v

@@ -6,7 +6,10 @@ use Rattle.lx_trees.specs.Siblings.{is_among}
 use Rattle.lx_node.specs.declared.kind.ListType.{ListType}
 use Rattle.lx_select.specs.declared.selection.Selection.{Selection}
 use Rattle.lx_select.specs.declared.selection.Selection.TheVariants.{Range}
-use Rattle.lx_select.specs.Selection.{has_point_on}
+use Rattle.lx_select.specs.Selection.{each_point, has_point_on}
+use Rattle.lx_select.specs.Rules.{moved_to}
+use Rattle.lx_edit.specs.Edits.{element_point}
+use Rattle.lx_list_laws.proofs.ReadSound.{is_free}
 use Rattle.lx_forest.specs.Forest.{Forest}
 use Rattle.lx_forest.specs.Lookups.{has, parent_of, children_of, ancestors, is_within, is_attached, IsForest}
 use Rattle.lx_forest.proofs.Lookups.{has-child, has-parent_of}
@@ -31,6 +34,7 @@ use Rattle.lx_list_laws.specs.Reading.{IsSound}
 use Rattle.lx_list_laws.specs.Returning.{MadeAndRemoved, StandsFor, BlocksComeBack}
 use Rattle.lx_list_laws.proofs.BlockBack.{IsListed, IsUndone, item_block, undone, stands_undone, points_undone}
 use Rattle.lx_list_laws.proofs.BlockMade.{IsMade, BecameList, became_list, listed_alone}
+use Rattle.lx_list_laws.proofs.BlockPoints.{GoesAlong, along_apart, still_off, along_sent}
 use Rattle.lx_list_laws.proofs.BlockSelected.{ends_in, step_alone}
 use Rattle.lx_list_laws.proofs.LevelPoints.{off_outside}
 use Rattle.lx_list_laws.proofs.ReadDissolved.{within_below, block_apart}
@@ -128,9 +132,6 @@ module _ (type : ListType) (p b : ℕ) (w v u : Working) (m : MadeAndRemoved typ
   stands : StandsFor f u.forest p b v.next_key
   stands = stands_undone f type p b became.list became.item v u sound between back
 
-  pub tree_back : (n : ℕ) × StandsFor w.forest u.forest p b n
-  tree_back = (v.next_key, stands)
-
   -- ---- points
 
   off_parent : has_point_on p w.selection ≡ false
@@ -142,17 +143,35 @@ module _ (type : ListType) (p b : ℕ) (w v u : Working) (m : MadeAndRemoved typ
     | inr out ↦ out
   ])
 
-  pub points_back : has_point_on b w.selection ≡ false → (v.selection ≡ w.selection) × (u.selection ≡ w.selection)
-  points_back off =
-      let first : v.selection ≡ w.selection =
-      became.points w.selection refl off_parent off (off_new became.list became.is.new_list) (off_new became.item became.is.new_item) in (
-        first,
-        points_undone f type p b became.list became.item w.selection v u sound between back first off_parent (off_new became.list became.is.new_list)
-            (off_new became.item became.is.new_item) (off_new v.next_key stands.new),
-      )
+  off_item : has_point_on became.item w.selection ≡ false
+  off_item = off_new became.item became.is.new_item
+
+  went : GoesAlong b became.item w.selection v.selection
+  went = became.points w.selection refl off_parent (off_new became.list became.is.new_list) off_item
+
+  pub points_between : has_point_on b w.selection ≡ false → v.selection ≡ w.selection
+  points_between off = along_apart b became.item w.selection v.selection went off off_item
+
+  -- where no point was, none is then, but on the item
+  off_still : (q : ℕ) → q ≢ became.item → has_point_on q w.selection ≡ false → has_point_on q v.selection ≡ false
+  off_still q other off = still_off b became.item q w.selection v.selection went other off_item off
+
+  points_back : u.selection ≡ each_point (moved_to b (element_point v.next_key 0)) w.selection
+  points_back =
+      let n : ℕ = v.next_key in
+      let not_p : p ≢ became.item =
+      λ same. absurd (grind (arith, ap (λ k. has k f) same, became.is.new_item, has-parent_of f b p m.becomes.up)) in
+      let not_n : n ≢ became.item =
+      λ same. absurd (grind (arith, ap (λ k. has k g) same, is_free v sound, has-child g became.item became.list item_up_now)) in
+      points_undone f type p b became.list became.item v.selection v u sound between back refl (off_still p not_p off_parent)
+      (off_still became.list became.is.two (off_new became.list became.is.new_list)) (off_still n not_n (off_new n stands.new))
+      ∙ along_sent b became.item (element_point n 0) w.selection v.selection went off_item
+
+  pub comes_back : (n : ℕ) × StandsFor w.forest u.forest p b n × (u.selection ≡ each_point (moved_to b (element_point n 0)) w.selection)
+  comes_back = (v.next_key, stands, points_back)
 
 pub told-blocks : BlocksComeBack
 told-blocks = record {
-  tree = λ type p b w v u m. tree_back type p b w v u m;
-  points = λ type p b w v u m off. points_back type p b w v u m off;
+  back = λ type p b w v u m. comes_back type p b w v u m;
+  between = λ type p b w v u m off. points_between type p b w v u m off;
 }

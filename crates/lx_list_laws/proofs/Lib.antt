@@ -1,5 +1,6 @@
 pub mod BlockBack
 pub mod BlockMade
+pub mod BlockPoints
 pub mod BlockSelected
 pub mod BlockTold
 pub mod LevelAlone

@@ -103,7 +103,7 @@ same_each to (k ∷ ks) w v e =
 
 -- ---- points that go along
 
-carry_key : (from to at : ℕ) (x : Point) → x.key ≡ from → (carry_moves from to at x).key ≡ to
+pub carry_key : (from to at : ℕ) (x : Point) → x.key ≡ from → (carry_moves from to at x).key ≡ to
 unfolding carry_moves
 carry_key from to at x own = elim (eqb_tells x.key from) [
   | inl same ↦ rw same.0 refl

@@ -5,11 +5,13 @@ use Rattle.lx_node.specs.Kinds.{is_inline, is_item, is_text_block, may_hold}
 use Rattle.lx_node.specs.Plain.{plain_element}
 use Rattle.lx_node.specs.declared.kind.Kind.TheVariants.{Paragraph}
 use Rattle.lx_node.specs.declared.kind.ListType.{ListType}
-use Rattle.lx_select.specs.Selection.{has_point_on}
+use Rattle.lx_select.specs.Selection.{each_point, has_point_on}
+use Rattle.lx_select.specs.Rules.{moved_to}
 use Rattle.lx_forest.specs.Forest.{Forest}
 use Rattle.lx_forest.specs.Lookups.{has, label_of, parent_of, children_of, previous_of, is_attached, IsHeld}
 use Rattle.lx_draft.specs.Working.{Working}
 use Rattle.lx_draft.specs.Covering.{IsReady}
+use Rattle.lx_edit.specs.Edits.{element_point}
 use Rattle.lx_edit_laws.specs.Reading.{in_place_of}
 use Rattle.lx_blocks.specs.Blocks.{is_at}
 use Rattle.lx_list.specs.Listing.{is_list_of, make_list_step}
@@ -47,9 +49,9 @@ pub record StandsFor (f g : Forest) (p block n : ℕ) : Type 0 where
 
 -- a block that is made a list comes back as a paragraph, in its place, when the list is removed
 pub record BlocksComeBack : Type 0 where
-  -- with its children, and nothing else changes
-  pub tree : (type : ListType) (p block : ℕ) (w v u : Working) → MadeAndRemoved type p block w v u
-      → (n : ℕ) × StandsFor w.forest u.forest p block n
-  -- points on what is in the block are where they were: between the two commands too
-  pub points : (type : ListType) (p block : ℕ) (w v u : Working) → MadeAndRemoved type p block w v u → has_point_on block w.selection ≡ false
-      → (v.selection ≡ w.selection) × (u.selection ≡ w.selection)
+  -- with its children, and nothing else changes; points on the block go to the start of the paragraph, and all others stay
+  pub back : (type : ListType) (p block : ℕ) (w v u : Working) → MadeAndRemoved type p block w v u
+      → (n : ℕ) × StandsFor w.forest u.forest p block n × (u.selection ≡ each_point (moved_to block (element_point n 0)) w.selection)
+  -- where no point is on the block itself, all are where they were between the two commands, too
+  pub between : (type : ListType) (p block : ℕ) (w v u : Working) → MadeAndRemoved type p block w v u → has_point_on block w.selection ≡ false
+      → v.selection ≡ w.selection
