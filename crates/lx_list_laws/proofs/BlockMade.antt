@@ -1,9 +1,9 @@
 -- A block that becomes the item of a new list: where its children are then.
-use Rattle.std.proofs.Common.{◌≡◌, ◌≢◌, ◌∙◌, ℕ, true, false, cond, eqb, List, [], ◌∷◌, ◌++◌, Option, None, Some, Result, Ok, refl, sym, ap, ap₂, subst, arith, inl, inr}
+use Rattle.std.proofs.Common.{◌≡◌, ◌≢◌, ◌∙◌, ℕ, true, false, cond, eqb, List, [], ◌∷◌, ◌++◌, Option, None, Some, Result, Ok, refl, sym, ap, subst, arith, inl, inr}
 use Rattle.std.specs.Prelude.{option_map, slice_get}
 use Rattle.std.proofs.lemmas.Bool.{cases_Bool}
 use Rattle.std.proofs.lemmas.Bool.Decides.{eqb_tells}
-use Rattle.lx_trees.specs.Siblings.{is_among, NoRepeats, names_without, names_with}
+use Rattle.lx_trees.specs.Siblings.{is_among, names_without, names_with}
 use Rattle.lx_trees.proofs.Siblings.{names_without-absent_list}
 use Rattle.lx_node.specs.Kinds.{may_hold, is_item, is_list, is_text, is_text_block}
 use Rattle.lx_node.specs.declared.kind.Kind.{Kind}
@@ -12,11 +12,8 @@ use Rattle.lx_node.specs.declared.kind.Kind.TheVariants.{Item, List as ListKind}
 use Rattle.lx_node.specs.declared.kind.ListType.{ListType}
 use Rattle.lx_node.specs.declared.cause.Cause.{Cause}
 use Rattle.lx_node.specs.declared.fields.Fields.{Fields}
-use Rattle.lx_node.specs.declared.cause.Point.{Point}
 use Rattle.lx_select.specs.declared.selection.Selection.{Selection}
-use Rattle.lx_select.specs.declared.selection.Selection.TheVariants.{Nothing, Range, Nodes, Cells}
-use Rattle.lx_select.specs.Selection.{has_point_on, ends_of, carried}
-use Rattle.lx_select.specs.Rules.{carry_moves}
+use Rattle.lx_select.specs.Selection.{has_point_on}
 use Rattle.lx_forest.specs.Forest.{Forest, Label}
 use Rattle.lx_forest.specs.Lookups.{has, kind_of, label_of, parent_of, children_of, size_of, previous_of, IsForest, IsHeld}
 use Rattle.lx_forest.specs.Edits.{take_out}
@@ -35,7 +32,7 @@ use Rattle.lx_edit_laws.specs.Reading.{in_place_of}
 use Rattle.lx_edit_laws.proofs.WrapLists.{in_its_place}
 use Rattle.lx_edit_laws.proofs.WrapSteps.{was_put, was_put_before, before_below, was_moved_to_end, was_same}
 use Rattle.lx_edit_laws.proofs.WrapTold.{WentAll, went_all}
-use Rattle.lx_edit_laws.proofs.WrapTrees.{not_child, IsForest-moved, label_of-moved, parent_of-moved}
+use Rattle.lx_edit_laws.proofs.WrapTrees.{not_child, IsForest-moved, label_of-moved}
 use Rattle.lx_edit_laws.proofs.WrapTurns.{left_alone, removed_alone}
 use Rattle.lx_blocks.specs.Blocks.{passes, is_at}
 use Rattle.lx_caret.proofs.Fit.{each_still}

@@ -1,5 +1,5 @@
 -- Where points go with the children of their node, and with all points on it.
-use Rattle.std.proofs.Common.{◌≡◌, ◌≢◌, ◌∙◌, ℕ, Bool, true, false, cond, eqb, List, [], ◌∷◌, Option, None, Some, Ok, refl, sym, ap, ap₂, subst, arith, inl, inr}
+use Rattle.std.proofs.Common.{◌≡◌, ◌≢◌, ◌∙◌, ℕ, true, false, cond, eqb, List, [], ◌∷◌, Option, None, Some, Ok, refl, sym, ap, ap₂, subst, arith, inl, inr}
 use Rattle.std.specs.Option.{option_or}
 use Rattle.std.proofs.lemmas.Bool.Decides.{eqb_tells}
 use Rattle.lx_trees.specs.Siblings.{is_among, NoRepeats}
@@ -96,7 +96,8 @@ pub moves_each : (to from : ℕ) (ks : List ℕ) (w v : Working) → IsForest w.
     → ((q : ℕ) → is_among q ks ≡ true → parent_of w.forest q ≡ Some from)
     → in_turn (moved_to_end to) ks w ≡ Ok v → MovesOn from to w.selection v.selection
 unfolding in_turn
-moves_each to from [] w v h once up e = subst (MovesOn from to w.selection) (ap (λ (x : Working). x.selection) (was_same w v e)) (moves_self from to w.selection)
+moves_each to from [] w v h once up e =
+    subst (MovesOn from to w.selection) (ap (λ (x : Working). x.selection) (was_same w v e)) (moves_self from to w.selection)
 moves_each to from (k ∷ ks) w v h once up e =
     let a = first_part (moved_to_end to k w) (in_turn (moved_to_end to) ks) v e in
     let left = parents_left to from k ks w a.0 h once up a.1 in

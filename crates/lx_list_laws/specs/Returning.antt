@@ -18,8 +18,8 @@ use Rattle.lx_list.specs.Listing.{is_list_of, make_list_step}
 use Rattle.lx_list.specs.Dissolving.{remove_list_step}
 use Rattle.lx_list_laws.specs.Levels.{has_points_within}
 
--- a block below p, in the root's tree, that becomes the one item of a new list of the type: a paragraph, a heading, or a
--- quote, with inline children alone, and no such list right before it
+-- a paragraph, a heading, or a quote below p, in the root's tree, with inline children alone and no list of the type right
+-- before it: it becomes the one item of a new list
 pub record BecomesList (type : ListType) (f : Forest) (p block : ℕ) : Type 0 where
   pub there : is_attached f block ≡ true
   pub up : parent_of f block ≡ Some p
