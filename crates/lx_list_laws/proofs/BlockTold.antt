@@ -8,8 +8,6 @@ use Rattle.lx_select.specs.declared.selection.Selection.{Selection}
 use Rattle.lx_select.specs.declared.selection.Selection.TheVariants.{Range}
 use Rattle.lx_select.specs.Selection.{each_point, has_point_on}
 use Rattle.lx_select.specs.Rules.{moved_to}
-use Rattle.lx_edit.specs.Edits.{element_point}
-use Rattle.lx_list_laws.proofs.ReadSound.{is_free}
 use Rattle.lx_forest.specs.Forest.{Forest}
 use Rattle.lx_forest.specs.Lookups.{has, parent_of, children_of, ancestors, is_within, is_attached, IsForest}
 use Rattle.lx_forest.proofs.Lookups.{has-child, has-parent_of}
@@ -19,6 +17,7 @@ use Rattle.lx_links.proofs.Ordered.{there_within}
 use Rattle.lx_draft.specs.Working.{Working}
 use Rattle.lx_draft.specs.Selecting.{lies_in}
 use Rattle.lx_draft.proofs.Gaps.{child_of, parent_here}
+use Rattle.lx_edit.specs.Edits.{element_point}
 use Rattle.lx_edit.specs.InTurn.{in_turn}
 use Rattle.lx_blocks.specs.Lines.{selected_lines}
 use Rattle.lx_blocks.specs.Ranges.{range_of}
@@ -39,6 +38,7 @@ use Rattle.lx_list_laws.proofs.BlockSelected.{ends_in, step_alone}
 use Rattle.lx_list_laws.proofs.LevelPoints.{off_outside}
 use Rattle.lx_list_laws.proofs.ReadDissolved.{within_below, block_apart}
 use Rattle.lx_list_laws.proofs.ReadListing.{keeps_listed}
+use Rattle.lx_list_laws.proofs.ReadSound.{is_free}
 use Rattle.lx_list_laws.proofs.StayKeys.{EachKey}
 use Rattle.lx_list_laws.proofs.StayUnder.{rise}
 

@@ -37,16 +37,16 @@ use Rattle.lx_caret.proofs.Moves.{stays_before, put_before_in, stays_each_moved}
 use Rattle.lx_caret.proofs.Removes.{IsClear, remove_fits}
 use Rattle.lx_list.specs.Dissolving.{emptied_into, paragraph_made, dissolved, is_in_item, is_outermost, outermost_above, dissolved_around}
 use Rattle.lx_list.proofs.Itemless.{there_at}
+use Rattle.lx_list.specs.Lines.{if_there}
 use Rattle.lx_list_laws.specs.Reading.{IsSound}
 use Rattle.lx_list_laws.specs.Staying.{goes_with_list}
+use Rattle.lx_list_laws.proofs.ReadDissolved.{lines_of, among_lines, IsEmptied, may_say, top_stays, found_passes}
 use Rattle.lx_list_laws.proofs.ReadLines.{list_or_item}
 use Rattle.lx_list_laws.proofs.ReadSaid.{has_still, are_said}
 use Rattle.lx_list_laws.proofs.ReadSound.{new_forest}
-use Rattle.lx_list_laws.proofs.ReadDissolved.{lines_of, among_lines, IsEmptied, may_say, top_stays, found_passes}
+use Rattle.lx_list_laws.proofs.StayGone.{Spared, parent_place, beside_place, list_up, spared_still}
 use Rattle.lx_list_laws.proofs.StayKeys.{EachKey, each_same, same_new, same_take, same_before, same_each}
 use Rattle.lx_list_laws.proofs.StayUnder.{Under, under, Sends, keys_sent, may_stay, goes_alone}
-use Rattle.lx_list.specs.Lines.{if_there}
-use Rattle.lx_list_laws.proofs.StayGone.{Spared, parent_place, beside_place, list_up, spared_still}
 
 -- ---- a line becomes a paragraph
 

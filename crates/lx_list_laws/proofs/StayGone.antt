@@ -3,6 +3,7 @@ use Rattle.std.proofs.Common.{◌≡◌, ◌≢◌, ◌∙◌, ℕ, Bool, true, 
 use Rattle.std.specs.List.{list_any}
 use Rattle.std.proofs.lemmas.Bool.{cases_Bool}
 use Rattle.std.proofs.lemmas.Bool.Decides.{eqb_tells}
+use Rattle.std.specs.Prelude.{find}
 use Rattle.lx_trees.specs.Siblings.{is_among}
 use Rattle.lx_trees.proofs.Siblings.{is_among-names_with, names_without-absent_list}
 use Rattle.lx_node.specs.Kinds.{may_hold, is_inline, is_item, is_list, is_text_block}
@@ -10,9 +11,10 @@ use Rattle.lx_node.specs.declared.kind.Kind.{Kind}
 use Rattle.lx_forest.specs.Forest.{Forest}
 use Rattle.lx_forest.specs.Lookups.{has, parent_of, children_of, size_of, ancestors, is_within, IsForest, IsHeld}
 use Rattle.lx_forest.specs.Edits.{take_out}
-use Rattle.lx_forest.proofs.Lookups.{kind_of-take_out, parent_of-take_out, children_of-take_out}
-use Rattle.lx_forest.proofs.Walks.{cases_option}
-use Rattle.lx_forest.proofs.Within.{is_within-ancestors}
+use Rattle.lx_forest.proofs.Lookups.{kind_of-take_out, parent_of-take_out, children_of-take_out, has-child, has-parent_of}
+use Rattle.lx_forest.proofs.Walks.{cases_option, ancestors-top, ancestors-step}
+use Rattle.lx_forest.proofs.Within.{is_within-ancestors, is_within-self, is_within-parent, is_within-take_out}
+use Rattle.lx_forest.proofs.Order.{IsForest-take_out}
 use Rattle.lx_links.proofs.Detached.{is_among-filter}
 use Rattle.lx_draft.proofs.Gaps.{parent_here, child_of}
 use Rattle.lx_edit_laws.proofs.WrapTrees.{not_child}
@@ -22,20 +24,12 @@ use Rattle.lx_list.specs.Dissolving.{is_in_item, is_outermost, outermost_above}
 use Rattle.lx_list.proofs.Above.{list_above}
 use Rattle.lx_list.proofs.Itemless.{item_below, there_at}
 use Rattle.lx_list_laws.specs.Staying.{is_nested_list, is_lineless, goes_with_list}
+use Rattle.lx_list_laws.proofs.ReadDissolved.{lines_of, IsEmptied, may_say, found_passes, within_below}
 use Rattle.lx_list_laws.proofs.ReadEdits.{so_at}
-use Rattle.lx_list_laws.proofs.ReadLines.{list_or_item, is_block_at}
+use Rattle.lx_list_laws.proofs.ReadLines.{list_or_item, is_block_at, is_listed, listed_below, list_tells}
 use Rattle.lx_list_laws.proofs.ReadOrder.{any-same}
-use Rattle.lx_list_laws.proofs.ReadDissolved.{lines_of, IsEmptied, may_say, found_passes}
-use Rattle.lx_list_laws.proofs.StayUnder.{list_no_item}
-use Rattle.lx_forest.proofs.Lookups.{has-child, has-parent_of}
-use Rattle.lx_forest.proofs.Order.{IsForest-take_out}
-use Rattle.lx_forest.proofs.Walks.{ancestors-top, ancestors-step}
-use Rattle.lx_forest.proofs.Within.{is_within-self, is_within-parent, is_within-take_out}
-use Rattle.std.specs.Prelude.{find}
-use Rattle.lx_list_laws.proofs.ReadLines.{is_listed, listed_below, list_tells}
 use Rattle.lx_list_laws.proofs.ReadSaid.{inline_below}
-use Rattle.lx_list_laws.proofs.ReadDissolved.{within_below}
-use Rattle.lx_list_laws.proofs.StayUnder.{rise}
+use Rattle.lx_list_laws.proofs.StayUnder.{list_no_item, rise}
 
 -- nothing that the list around one of these lines goes with is at this node
 abbrev pub Spared : Forest → List ℕ → ℕ → Type 0

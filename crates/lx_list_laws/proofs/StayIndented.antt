@@ -11,8 +11,8 @@ use Rattle.lx_node.specs.declared.fields.Fields.{Fields}
 use Rattle.lx_node.specs.declared.fields.Fields.TheVariants as fields
 use Rattle.lx_node.specs.declared.fields.ElementFields.{ElementFields}
 use Rattle.lx_node.specs.declared.cause.Point.{Point}
-use Rattle.lx_select.specs.Rules.{set_moves}
 use Rattle.lx_text.specs.Texts.{within}
+use Rattle.lx_select.specs.Rules.{set_moves}
 use Rattle.lx_forest.specs.Forest.{Forest}
 use Rattle.lx_forest.specs.Lookups.{kind_of, fields_of, parent_of, children_of, children_below, first_child, previous_of, next_of, is_attached, IsForest, IsHeld}
 use Rattle.lx_forest.specs.Edits.{with_fields}

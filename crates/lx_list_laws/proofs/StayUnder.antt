@@ -24,10 +24,10 @@ use Rattle.lx_caret.proofs.Fit.{each_moved}
 use Rattle.lx_caret.proofs.Moves.{stands}
 use Rattle.lx_list.specs.Dissolving.{is_in_item}
 use Rattle.lx_list.proofs.Itemless.{item_below}
-use Rattle.lx_list_laws.proofs.ReadEdits.{so_at}
-use Rattle.lx_list_laws.proofs.ReadSaid.{both_kinds}
-use Rattle.lx_list_laws.proofs.ReadLines.{is_listed, listed_below, list_or_item}
 use Rattle.lx_list_laws.proofs.ReadDissolved.{within_below, IsEmptied, list_listed, left_below, list_inside}
+use Rattle.lx_list_laws.proofs.ReadEdits.{so_at}
+use Rattle.lx_list_laws.proofs.ReadLines.{is_listed, listed_below, list_or_item}
+use Rattle.lx_list_laws.proofs.ReadSaid.{both_kinds}
 use Rattle.lx_list_laws.proofs.StayKeys.{EachKey}
 
 -- ---- down from a node
