@@ -1,4 +1,5 @@
 -- Removing what is selected from one text to another, wherever the two are.
+use Rattle.lx_caret_laws.proofs.SharedBlocks.{blocks_share}
 use Rattle.lx_text.proofs.Places.{offset_is, parts}
 use Rattle.lx_draft.specs.Selecting.{text_of}
 use Rattle.lx_caret_laws.specs.Reading.{said}
@@ -12,7 +13,7 @@ use Rattle.lx_caret_laws.proofs.Going.{going, going_clear}
 use Rattle.lx_caret_laws.proofs.JoinedOver.{Blocks, block_gone, block_reads, over_joined, block_offset, block_place}
 use Rattle.lx_caret_laws.proofs.LyingBetween.{attached_above, attached_first, attached_last, first_alone, last_alone, names}
 use Rattle.lx_caret_laws.proofs.Merged.{Over, Setting, block_holds, over_alone, within_first, within_last, left_over, away_from, ahead_said}
-use Rattle.lx_caret_laws.specs.Spans.{AreJoined, KeepEnds}
+use Rattle.lx_caret_laws.specs.Spans.{AreJoined, KeepEnds, Share}
 use Rattle.lx_draft.proofs.Gaps.{parent_here}
 use Rattle.lx_draft.specs.Faults.{after, text_in}
 use Rattle.lx_draft.specs.Working.{Working}
@@ -165,6 +166,8 @@ module _ (s e i j : ℕ) (one other : TextFields) (a m z : List ℕ) (w g : Work
     pub over : Over s e i j one other a m z w v
     pub joins : is_offset i one.text ≡ true → is_offset j other.text ≡ true → is_within f p b ≡ false → is_within f b p ≡ false
         → ((c : ℕ) → parent_of f c ≡ Some b → is_at is_inline f c ≡ true) → AreJoined p b s e i j w v
+    pub shares : is_offset i one.text ≡ true → is_offset j other.text ≡ true → is_within f p b ≡ false → is_within f b p ≡ false
+        → Share p b s e i j w v
     pub keeps : is_offset i one.text ≡ true → is_offset j other.text ≡ true → (is_within f p b ≡ true) ⊎ (is_within f b p ≡ true)
         → KeepEnds s e i j w v
 
@@ -179,6 +182,8 @@ module _ (s e i j : ℕ) (one other : TextFields) (a m z : List ℕ) (w g : Work
         | inl by ↦
             let k = blocks_of p b one_holds.0 two_holds.0 other_than (grind (arith, by.apart)) (grind (arith, by.apart)) in
             record {
+              shares = λ in_first in_last outside apart.
+                  blocks_share s e i j one other a m z w g by.draft v x d p b k by.ended by.moved in_first in_last;
               keeps = λ in_first in_last nested. absurd (elim nested [
                 | inl holds ↦ grind (arith, by.apart, holds, within_holder_last p b two_holds.0)
                 | inr holds ↦ grind (arith, by.apart, holds, within_holder b p one_holds.0)
@@ -194,6 +199,12 @@ module _ (s e i j : ℕ) (one other : TextFields) (a m z : List ℕ) (w g : Work
                   };
             }
         | inr (not_apart, same) ↦ record {
+          shares = λ in_first in_last outside apart.
+              let p_there : is_attached g.forest p ≡ true =
+              within_holder 0 p one_holds.0 ∙ attached_above f p s order one_holds.0 there_s in
+              let b_there : is_attached g.forest b ≡ true =
+              within_holder_last 0 b two_holds.0 ∙ attached_above f b e order two_holds.0 there_e in
+              absurd (grind (arith, not_apart, p_there, b_there, within_holder_last p b two_holds.0, within_holder b p one_holds.0, outside, apart));
           keeps = λ in_first in_last nested. subst (KeepEnds s e i j w) same (ends_kept in_first in_last);
           over = over_alone s e i j one other a m z w g x d v same;
           joins = λ in_first in_last outside apart inline.

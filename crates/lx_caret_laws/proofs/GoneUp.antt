@@ -1,8 +1,10 @@
 -- An empty node goes, and those above it that may not be left: in no node is less read, and what is read at a text is where it was.
-use Rattle.lx_caret_laws.proofs.LeafOut.{CutAlike, leaf_out}
+use Rattle.std.specs.Prelude.{is_some}
+use Rattle.lx_draft.proofs.Touched.{is_some-kind_of}
+use Rattle.lx_caret_laws.proofs.LeafOut.{CutAlike, leaf_out, leaf_reads}
 use Rattle.lx_caret_laws.proofs.Silent.{goer_no_text, goer_silent}
 use Rattle.lx_caret_laws.proofs.WentOut.{took_it}
-use Rattle.lx_caret_laws.specs.Reading.{said}
+use Rattle.lx_caret_laws.specs.Reading.{said, read_in}
 use Rattle.lx_draft.proofs.Gaps.{parent_here}
 use Rattle.lx_draft.specs.Steps.{take_step}
 use Rattle.lx_draft.specs.Working.{Working}
@@ -15,14 +17,14 @@ use Rattle.lx_forest.proofs.Up.{ancestors-take_out_outside}
 use Rattle.lx_forest.proofs.Walks.{ancestors-step, ancestors-top, cases_option}
 use Rattle.lx_forest.proofs.Within.{is_within-leaf, is_within-parent, is_within-take_out}
 use Rattle.lx_forest.specs.Edits.{take_out}
-use Rattle.lx_forest.specs.Forest.{Forest}
-use Rattle.lx_forest.specs.Lookups.{IsForest, ancestors, children_of, is_attached, is_within, keys_within, kind_of, label_of, parent_of}
+use Rattle.lx_forest.specs.Forest.{Forest, Label}
+use Rattle.lx_forest.specs.Lookups.{IsForest, ancestors, children_of, is_attached, is_within, keys_within, kind_of, label_of, parent_of, has}
 use Rattle.lx_forest.specs.Suited.{IsSuited}
 use Rattle.lx_node.specs.declared.kind.Kind.{Kind}
 use Rattle.lx_select.specs.declared.selection.Selection.TheVariants.{Range}
 use Rattle.lx_trees.proofs.Siblings.{names_without-absent_list}
 use Rattle.lx_trees.specs.Siblings.{is_among}
-use Rattle.std.proofs.Common.{Bool, List, None, Ok, Option, Some, [], ap, arith, cond, eqb, false, inl, inr, length, refl, subst, sym, true, ℕ, ◌++◌, ◌∙◌, ◌∷◌, ◌≡◌, ◌≢◌, not, ◌&&◌, ◌||◌}
+use Rattle.std.proofs.Common.{Bool, List, None, Ok, Option, Some, [], ap, arith, cond, eqb, false, inl, inr, length, refl, subst, sym, true, ℕ, ◌++◌, ◌∙◌, ◌∷◌, ◌≡◌, ◌≢◌, not, ◌&&◌, ◌||◌, option_map}
 use Rattle.std.proofs.lemmas.Bool.{cases_Bool}
 use Rattle.std.proofs.lemmas.Bool.Decides.{eqb_tells}
 use Rattle.std.proofs.lemmas.List.{nil_from_length}
@@ -36,6 +38,7 @@ pub record GoneUp (high : ℕ → Bool) (s : ℕ) (w v : Working) : Type 0 where
   pub within : (q : ℕ) → is_within v.forest q s ≡ is_within w.forest q s
   pub cuts : (q : ℕ) (left rest : List ℕ) → is_within w.forest q s ≡ true → keys_within w.forest q ≡ left ++ (s ∷ rest)
       → is_among s left ≡ false → CutAlike w.forest v.forest s q left rest
+  pub reads : (q : ℕ) → has q w.forest ≡ true → read_in v.forest q ≡ read_in w.forest q
   pub fewer : (q : ℕ) → is_attached w.forest q ≡ false → is_attached v.forest q ≡ false
   pub stays : (q : ℕ) → high q ≡ false → is_attached w.forest q ≡ true → is_attached v.forest q ≡ true
   pub ups : (q p : ℕ) → high q ≡ false → parent_of w.forest q ≡ Some p → parent_of v.forest q ≡ Some p
@@ -57,6 +60,7 @@ none_gone high s w v h same = subst (GoneUp high s w) same (record {
   others = λ q low. refl;
   within = λ q. refl;
   cuts = λ q left rest inside keys out. record { front = left; back = rest; keys = keys; ahead = refl; behind = refl; away = out };
+  reads = λ q so. refl;
   fewer = λ q out. out;
   stays = λ q low there. there;
   ups = λ q p low up. up;
@@ -82,6 +86,10 @@ gone_twice high s w u v one two = record {
         behind = second.behind ∙ first.behind;
         away = second.away;
       };
+  reads = λ q so.
+      let there : has q u.forest ≡ true =
+      sym (is_some-kind_of u.forest q) ∙ ap (λ l. is_some (option_map (λ (l : Label). l.kind) l)) (one.label q) ∙ is_some-kind_of w.forest q ∙ so in
+      two.reads q there ∙ one.reads q so;
   fewer = λ q out. two.fewer q (one.fewer q out);
   stays = λ q low there. two.stays q low (one.stays q low there);
   ups = λ q p low up. two.ups q p low (one.ups q p low up);
@@ -123,6 +131,7 @@ one_gone high s k w v r is e =
       cuts = λ q left rest inside keys away.
           let apart : q ≢ k = λ same. absurd (grind (arith, inside, out, ap (λ x. is_within f x s) same)) in
           subst (λ g. CutAlike f g s q left rest) (sym forest) (leaf_out k s f q left rest h is.leaf is.silent is.other inside apart keys away);
+      reads = λ q so. ap (λ g. read_in g q) forest ∙ leaf_reads k f q h is.leaf is.silent so;
       fewer = λ q out. attached q ∙ grind (arith, out);
       stays = λ q low there.
           let apart : q ≢ k = λ same. absurd (grind (arith, low, is.high_up, ap high same)) in

@@ -58,7 +58,7 @@ module _ (s e i j : ℕ) (one other : TextFields) (a m z : List ℕ) (w g u v : 
   abbrev ls : List ℕ
   ls = leading g.forest b
 
-  split : (rest : List ℕ) × (children_of g.forest b ≡ ls ++ rest)
+  pub split : (rest : List ℕ) × (children_of g.forest b ≡ ls ++ rest)
   split = leading_splits g.forest (children_of g.forest b)
 
   once : NoRepeats (ls ++ split.0)
@@ -71,17 +71,17 @@ module _ (s e i j : ℕ) (one other : TextFields) (a m z : List ℕ) (w g u v : 
   not_same same =
       absurd (grind (arith, k.apart, ap (is_within g.forest b) same, is_within-self g.forest b, holder_there g.forest b e k.last))
 
-  over : WentOver g.forest u.forest b p ls
+  pub over : WentOver g.forest u.forest b p ls
   over = went_over b p ls g u d.ordered not_same (no_repeats_front ls split.0 once) child_up moved
 
-  left_there : children_of u.forest b ≡ split.0
+  pub left_there : children_of u.forest b ≡ split.0
   left_there =
       let keep : ℕ → Bool = λ q. not (is_among q ls) in
       over.left ∙ ap (filter keep) split.1 ∙ filter-append keep ls split.0
       ∙ ap₂ (λ x y. x ++ y) (filter-gone keep ls (λ q at. ap not at))
       (filter-kept keep split.0 (λ q at. ap not (not_ahead ls split.0 q once at)))
 
-  joining : Joining g.forest u.forest s e p b ls split.0
+  pub joining : Joining g.forest u.forest s e p b ls split.0
   joining = record {
     order = d.ordered;
     order_after = over.in_order;
@@ -177,12 +177,12 @@ module _ (s e i j : ℕ) (one other : TextFields) (a m z : List ℕ) (w g u v : 
   own_high : high b ≡ true
   own_high = is_within-self g.forest b ∙ holder_there g.forest b e k.last
 
-  silent_g : said g.forest b ≡ []
+  pub silent_g : said g.forest b ≡ []
   silent_g =
       (left_over s e i j one other a m z w g x d).others_say b not_first k.other
       ∙ holds_silent s e i j one other a m z w g x d b k.other f_last
 
-  silent_last : said u.forest b ≡ []
+  pub silent_last : said u.forest b ≡ []
   silent_last = says_by g.forest u.forest b (over.label b) ∙ silent_g
 
   gone_if : (t : Bool) → eqb (size_of u.forest b) 0 ≡ t → cond t (remove_step b u) (Ok u) ≡ Ok v
@@ -195,7 +195,7 @@ module _ (s e i j : ℕ) (one other : TextFields) (a m z : List ℕ) (w g u v : 
       let same : u ≡ v = cc in
       (none_gone high s u v over.in_order same, λ none. absurd (grind (arith, is, none)))
 
-  gone : GoneUp high s u v × ((children_of u.forest b ≡ []) → parent_of v.forest b ≡ None)
+  pub gone : GoneUp high s u v × ((children_of u.forest b ≡ []) → parent_of v.forest b ≡ None)
   gone = gone_if (eqb (size_of u.forest b) 0) refl ended
 
   -- in the root's tree is what was there
@@ -321,7 +321,7 @@ module _ (s e i j : ℕ) (one other : TextFields) (a m z : List ℕ) (w g u v : 
       gone.0.cuts p hf.front moved_keys (holds_in u.forest p s hf.front moved_keys now) now
       (away_from s e i j one other a m z w g x d hf.front hf.ahead)
 
-  first_block : read_in v.forest p ≡ read_in g.forest p ++ said_by g.forest moved_keys
+  pub first_block : read_in v.forest p ≡ read_in g.forest p ++ said_by g.forest moved_keys
   first_block =
       let hf = first_ways in
       let now : keys_within u.forest p ≡ hf.front ++ (s ∷ moved_keys) =
@@ -355,28 +355,34 @@ module _ (s e i j : ℕ) (one other : TextFields) (a m z : List ℕ) (w g u v : 
       offset_front f p s i hf.front hf.back (front_of i one.text) (rest_of i one.text) hf.is
       (away_from s e i j one other a m z w g x d hf.front hf.ahead) (text_said s one x.first i) (offset_is i one.text in_first)
 
-  pub block_reads : is_offset i one.text ≡ true → is_offset j other.text ≡ true → ls ≡ children_of g.forest b
-      → read_in v.forest p ≡ front_of (place_in f p (text_point s i)) (read_in f p) ++ rest_of (place_in f b (text_point e j)) (read_in f b)
-  block_reads in_first in_last whole =
+  pub front_is : is_offset i one.text ≡ true → read_in g.forest p ≡ front_of (place_in f p (text_point s i)) (read_in f p)
+  front_is in_first =
       let hf = first_ways in
+      reads_front f g.forest p s i hf.front hf.back (front_of i one.text) (rest_of i one.text) hf.is
+      (away_from s e i j one other a m z w g x d hf.front hf.ahead) own_keys (text_said s one x.first i) (offset_is i one.text in_first)
+      (left_over s e i j one other a m z w g x d).first_says (ahead_said s e i j one other a m z w g x d hf.front hf.ahead)
+
+  pub rest_is : is_offset j other.text ≡ true → read_in g.forest b ≡ rest_of (place_in f b (text_point e j)) (read_in f b)
+  rest_is in_last =
       let hl = last_ways in
       let l = left_over s e i j one other a m z w g x d in
-      let one_is = reads_front f g.forest p s i hf.front hf.back (front_of i one.text) (rest_of i one.text) hf.is
-      (away_from s e i j one other a m z w g x d hf.front hf.ahead) own_keys (text_said s one x.first i) (offset_is i one.text in_first)
-      l.first_says (ahead_said s e i j one other a m z w g x d hf.front hf.ahead) in
       let from = left_last f g.forest s e a m z (front_of i one.text) (rest_of j other.text) l b hl in
       let e_out : is_among e hl.front ≡ false = elim (cases_Bool (is_among e hl.front)) [
         | inl bad ↦ absurd (grind (arith, hl.inside.each e bad, (names f s e a m z x.between).e_mid))
         | inr fine ↦ fine
       ] in
-      let two_is = reads_rest f g.forest b e j hl.front hl.back from.mid (front_of j other.text) (rest_of j other.text) hl.is e_out from.keys
+      reads_rest f g.forest b e j hl.front hl.back from.mid (front_of j other.text) (rest_of j other.text) hl.is e_out from.keys
       (text_said e other x.last j) (offset_is j other.text in_last) l.last_says from.silent
-      (back_says f g.forest s e a m z (front_of i one.text) (rest_of j other.text) l hl.back hl.behind) in
+      (back_says f g.forest s e a m z (front_of i one.text) (rest_of j other.text) l hl.back hl.behind)
+
+  pub block_reads : is_offset i one.text ≡ true → is_offset j other.text ≡ true → ls ≡ children_of g.forest b
+      → read_in v.forest p ≡ front_of (place_in f p (text_point s i)) (read_in f p) ++ rest_of (place_in f b (text_point e j)) (read_in f b)
+  block_reads in_first in_last whole =
       let block : read_in g.forest b ≡ said_by g.forest moved_keys =
       ap (said_by g.forest) (keys-level g.forest b d.ordered (holder_there g.forest b e k.last)
       ∙ ap (λ cs. b ∷ spread (keys_within g.forest) cs) (sym whole))
       ∙ ap (λ t. t ++ said_by g.forest moved_keys) silent_g in
-      first_block ∙ ap₂ (λ y r. y ++ r) one_is (sym block ∙ two_is)
+      first_block ∙ ap₂ (λ y r. y ++ r) (front_is in_first) (sym block ∙ rest_is in_last)
 
   pub block_gone : ls ≡ children_of g.forest b → parent_of v.forest b ≡ None
   block_gone whole = gone.1 (over.left ∙ filter-gone (λ q. not (is_among q ls)) (children_of g.forest b)

@@ -1,7 +1,8 @@
 -- A leaf that says nothing is taken out: the keys that are left, and what they say.
+use Rattle.lx_caret_laws.proofs.ReadLevels.{read-leaf}
 use Rattle.lx_caret_laws.proofs.KeysLeft.{holder_there, keys_left}
 use Rattle.lx_caret_laws.proofs.ReadOver.{said-same}
-use Rattle.lx_caret_laws.specs.Reading.{said, said_by}
+use Rattle.lx_caret_laws.specs.Reading.{said, said_by, read_in}
 use Rattle.lx_draft.proofs.Gaps.{child_of}
 use Rattle.lx_draft.proofs.Touched.{is_some-kind_of}
 use Rattle.lx_draft.specs.Selecting.{text_of}
@@ -77,3 +78,17 @@ leaf_out c s f q left rest h leaf silent other inside apart keys out =
       behind = says (filter (other_than c) rest) ∙ said-filter f c rest silent;
       away = absent-filter c s left out;
     }
+
+-- and in no node is less read
+pub leaf_reads : (c : ℕ) (f : Forest) (q : ℕ) → IsForest f → children_of f c ≡ [] → said f c ≡ [] → has q f ≡ true
+    → read_in (take_out c f) q ≡ read_in f q
+leaf_reads c f q h leaf silent so = elim (eqb_tells q c) [
+  | inl own ↦
+      let none : children_of (take_out c f) q ≡ [] =
+      children_of-take_out c f q h ∙ ap (names_without c) (ap (children_of f) own.1 ∙ leaf) in
+      read-leaf (take_out c f) q (IsForest-take_out c f h) none ∙ said_of_taken c f q h ∙ sym (read-leaf f q h (ap (children_of f) own.1 ∙ leaf))
+  | inr other ↦
+      ap (said_by (take_out c f)) (leaf_keys c f q h leaf so other.1)
+      ∙ said-same f (take_out c f) (filter (other_than c) (keys_within f q)) (λ k at. said_of_taken c f k h)
+      ∙ said-filter f c (keys_within f q) silent
+]

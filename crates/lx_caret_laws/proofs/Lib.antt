@@ -50,6 +50,7 @@ pub mod ReadOver
 pub mod ReadsOver
 pub mod RuleGone
 pub mod SelectedOver
+pub mod SharedBlocks
 pub mod Silent
 pub mod SilentBlocks
 pub mod Spliced

@@ -17,7 +17,7 @@ use Rattle.lx_caret_laws.proofs.InBlocks.{text_in_block}
 use Rattle.lx_caret_laws.proofs.Merged.{Over, Setting}
 use Rattle.lx_caret_laws.proofs.Spliced.{text_few, text_of_normal}
 use Rattle.lx_caret_laws.specs.Carets.{HasCaret}
-use Rattle.lx_caret_laws.specs.Spans.{AreJoined, AreToJoin, IsSelectedOver, KeepEnds}
+use Rattle.lx_caret_laws.specs.Spans.{AreJoined, AreToJoin, IsSelectedOver, KeepEnds, Share}
 use Rattle.lx_draft.specs.Faults.{text_in}
 use Rattle.lx_draft.specs.Selecting.{length_of, lies_in}
 use Rattle.lx_draft.specs.Working.{Working}
@@ -53,6 +53,9 @@ pub record AllOver (s e i j format : ℕ) (one other : TextFields) (w v : Workin
   pub leaf_last : is_at is_element w.forest e ≡ false
   pub caret : HasCaret s i format v
   pub fit : Fit v
+  -- where neither of their blocks is in the other, they share what is left
+  pub shares : (p b : ℕ) → block_of w.forest s ≡ Some p → block_of w.forest e ≡ Some b → is_within w.forest p b ≡ false
+      → is_within w.forest b p ≡ false → Share p b s e i j w v
   -- where one of their blocks is in the other, nothing is joined
   pub keeps : (p b : ℕ) → block_of w.forest s ≡ Some p → block_of w.forest e ≡ Some b
       → (is_within w.forest p b ≡ true) ⊎ (is_within w.forest b p ≡ true) → KeepEnds s e i j w v
@@ -124,6 +127,7 @@ over_points a c s e i j format one other w v is selects points place_s place_e g
       leaf_last = no_element f e text_e.kind_is;
       caret = over.caret format (ap (each_point (λ x. text_point s i)) selects);
       fit = remove_text_fits w v is.sound.ready is.sound.held is.sound.short done;
+      shares = λ p q first_block last_block outside off. (end p q first_block last_block part.merge).shares in_first in_last outside off;
       keeps = λ p q first_block last_block nested. (end p q first_block last_block part.merge).keeps in_first in_last nested;
       joins = λ p q k. (end p q k.first_block k.last_block part.merge).joins in_first in_last k.outside k.apart k.inline;
     }

@@ -118,6 +118,9 @@ told-spans = record {
   removed = λ back s e i j format one other w v is done.
       gone_over s e i j format one other w v
       (all_over s e i j format one other w v is (by_removing back s e i j format one other w v is done));
+  shared = λ back a b s e i j format one other w v is first_block last_block outside apart done.
+      (all_over s e i j format one other w v is (by_removing back s e i j format one other w v is done)).shares a b first_block last_block
+      outside apart;
   joined = λ back a b s e i j format one other w v is blocks done.
       (all_over s e i j format one other w v is (by_removing back s e i j format one other w v is done)).joins a b blocks;
   nested = λ back a b s e i j format one other w v is first_block last_block nested done.

@@ -47,6 +47,13 @@ pub record IsGoneOver (first last from to format : ℕ) (one other : TextFields)
       → is_within w.forest q last ≡ false → is_attached v.forest q ≡ true
   pub last_stays : is_attached v.forest last ≡ true
 
+-- The first block reads what it had before the one point, and then some of what the last block had after the other: its first inline
+-- children came over. The last block reads the rest of that, if there is any.
+pub record Share (a b first last from to : ℕ) (w v : Working) : Type 0 where
+  pub moved : List ℕ
+  pub first_reads : read_in v.forest a ≡ front_of (place_in w.forest a (text_point first from)) (read_in w.forest a) ++ moved
+  pub last_reads : rest_of (place_in w.forest b (text_point last to)) (read_in w.forest b) ≡ moved ++ read_in v.forest b
+
 -- the blocks of two texts, neither of which is in the other, where the last block has nothing but inline children
 pub record AreToJoin (a b first last : ℕ) (w : Working) : Type 0 where
   pub first_block : block_of w.forest first ≡ Some a
@@ -94,7 +101,11 @@ pub record IsTypedOverSpan (typed : List ℕ) (first last from to : ℕ) (one ot
 pub record SpansGiveWay : Type 0 where
   pub removed : (back : Bool) (first last from to format : ℕ) (one other : TextFields) (w v : Working)
       → IsSelectedOver first last from to format one other w → Removes back w v → IsGoneOver first last from to format one other w v
-  -- the last block is joined to the first
+  -- where neither of the two blocks is in the other, they share what is left
+  pub shared : (back : Bool) (a b first last from to format : ℕ) (one other : TextFields) (w v : Working)
+      → IsSelectedOver first last from to format one other w → block_of w.forest first ≡ Some a → block_of w.forest last ≡ Some b
+      → is_within w.forest a b ≡ false → is_within w.forest b a ≡ false → Removes back w v → Share a b first last from to w v
+  -- a last block that has inline children alone is joined to the first
   pub joined : (back : Bool) (a b first last from to format : ℕ) (one other : TextFields) (w v : Working)
       → IsSelectedOver first last from to format one other w → AreToJoin a b first last w → Removes back w v
       → AreJoined a b first last from to w v
