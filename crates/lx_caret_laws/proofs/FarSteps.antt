@@ -15,13 +15,8 @@ use Rattle.lx_caret_laws.proofs.JoinMet.{deletes_joins, joined_back, joined_on}
 use Rattle.lx_caret_laws.proofs.JoinSteps.{in_block, in_line, index_within}
 use Rattle.lx_caret_laws.proofs.JoinedIn.{IsSetIn, at_end, from_first, from_second, read_aside, read_joined}
 use Rattle.lx_caret_laws.proofs.ReadLevels.{read-leaf}
-<<<<<<< HEAD
-use Rattle.lx_caret_laws.proofs.SilentBlocks.{element_of_block, silent_block}
-use Rattle.lx_caret_laws.proofs.Stops.{inline_below, line_children, no_stop_kind}
-=======
 use Rattle.lx_caret_laws.proofs.SilentBlocks.{element_of_block, silent_block}
 use Rattle.lx_caret_laws.proofs.Stops.{inline_below, no_stop_kind}
->>>>>>> fd5aa150 (lx_caret_laws: both ways to join lines share how their children are moved)
 use Rattle.lx_caret_laws.proofs.TypedNew.{said_label}
 use Rattle.lx_caret_laws.specs.Joining.{AreJoinedApart, Deletes, IsAtEdge, IsBehindAll, IsMetBack}
 use Rattle.lx_caret_laws.specs.Reading.{place_in, read_in, said}

@@ -9,20 +9,6 @@ use Rattle.lx_caret.specs.Deleting.{join_step, line_joined}
 use Rattle.lx_caret_laws.proofs.Covers.{among_at}
 use Rattle.lx_caret_laws.proofs.EdgeEnd.{nothing_after}
 use Rattle.lx_caret_laws.proofs.EdgeStart.{IsInLine, nothing_before}
-<<<<<<< HEAD
-use Rattle.lx_caret_laws.proofs.InPlace.{apart_children, out_below}
-<<<<<<< HEAD
-use Rattle.lx_caret_laws.proofs.Joined.{LeftJoined, at_end, from_first, from_second, read_joined, read_others}
-use Rattle.lx_caret_laws.proofs.RuleGone.{rule_gone}
-use Rattle.lx_caret_laws.proofs.SilentBlocks.{element_of_block, silent_block}
-=======
-use Rattle.lx_caret_laws.proofs.Joined.{LeftJoined, read_line, read_others, set_in}
-use Rattle.lx_caret_laws.proofs.JoinedIn.{IsSetIn, at_end, from_first, from_second}
-use Rattle.lx_caret_laws.proofs.SilentBlocks.{element_of_block, silent_block}
->>>>>>> ad759e37 (lx_caret_laws: what is read where lines of two parents are joined)
-use Rattle.lx_caret_laws.proofs.Stops.{AreThere, apart, line_children, met_back, met_on, once, up_first, up_second}
-use Rattle.lx_caret_laws.proofs.WentIn.{MayGo, as_moved, caret_goes, take_caret}
-=======
 use Rattle.lx_caret_laws.proofs.InPlace.{apart_children}
 use Rattle.lx_caret_laws.proofs.FarGone.{none_on}
 use Rattle.lx_caret_laws.proofs.JoinMoved as moved
@@ -32,7 +18,6 @@ use Rattle.lx_caret_laws.proofs.JoinedIn.{IsSetIn, at_end, from_first, from_seco
 use Rattle.lx_caret_laws.proofs.SilentBlocks.{element_of_block, silent_block}
 use Rattle.lx_caret_laws.proofs.Stops.{AreThere, apart, met_back, met_on, once, up_first, up_second}
 use Rattle.lx_caret_laws.proofs.WentIn.{take_caret}
->>>>>>> fd5aa150 (lx_caret_laws: both ways to join lines share how their children are moved)
 use Rattle.lx_caret_laws.proofs.WentOut.{without_middle}
 use Rattle.lx_caret_laws.specs.Carets.{IsSound}
 use Rattle.lx_caret_laws.specs.Joining.{AreJoined, AreLines, Deletes, IsAtEdge, IsBehindAll, IsLine}

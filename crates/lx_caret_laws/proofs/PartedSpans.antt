@@ -5,7 +5,7 @@ use Rattle.lx_caret.specs.Paragraphs.{Broken, draft_left, empty_item, insert_par
 use Rattle.lx_caret.specs.Removing.{remove_text_step}
 use Rattle.lx_caret_laws.proofs.InPlace.{below_parent}
 use Rattle.lx_caret_laws.proofs.Merged.{block_holds}
-use Rattle.lx_caret_laws.proofs.BrokenUp.{left_tells, told-breaking}
+use Rattle.lx_caret_laws.proofs.BreakSteps.{left_tells, told-breaking}
 use Rattle.lx_caret_laws.proofs.EditedIn.{around_it}
 use Rattle.lx_caret_laws.proofs.ReadsOver.{allows_over, between_over, inside, place_kept}
 use Rattle.lx_caret_laws.proofs.SelectedOver.{AllOver}
