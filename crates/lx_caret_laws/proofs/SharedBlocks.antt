@@ -1,30 +1,28 @@
 -- What the last block of a selection has after it is shared by the two blocks once they are joined.
 use Rattle.lx_blocks.specs.Blocks.{leading}
-use Rattle.lx_caret_laws.proofs.CutLists.{HasBoth}
 use Rattle.lx_caret_laws.proofs.Emptied.{Emptied}
 use Rattle.lx_caret_laws.proofs.Going.{going}
 use Rattle.lx_caret_laws.proofs.InPlace.{below_parent, keys-level}
-use Rattle.lx_caret_laws.proofs.JoinedKeys.{last_keys, rest_keys, same_keys}
+use Rattle.lx_caret_laws.proofs.JoinedKeys.{last_keys, same_keys}
 use Rattle.lx_caret_laws.proofs.JoinedOver.{Blocks, first_block, front_is, gone, joining, left_there, moved_keys, rest_is, silent_g, silent_last, split}
 use Rattle.lx_caret_laws.proofs.KeysLeft.{holder_there}
-use Rattle.lx_caret_laws.proofs.Merged.{Setting, says_by, there_as}
+use Rattle.lx_caret_laws.proofs.Merged.{Setting}
 use Rattle.lx_caret_laws.proofs.ReadOver.{said-append, said-same}
-use Rattle.lx_caret_laws.specs.Reading.{place_in, read_in, said, said_by}
+use Rattle.lx_caret_laws.specs.Reading.{read_in, said_by}
 use Rattle.lx_caret_laws.specs.Spans.{Share}
 use Rattle.lx_draft.proofs.Gaps.{parent_here}
 use Rattle.lx_draft.specs.Working.{Working}
-use Rattle.lx_edit.specs.Edits.{moved_to_end, remove_step, text_point}
+use Rattle.lx_edit.specs.Edits.{moved_to_end, remove_step}
 use Rattle.lx_edit.specs.InTurn.{in_turn}
 use Rattle.lx_edit_laws.proofs.Reading.{spread, spread-same}
 use Rattle.lx_forest.proofs.Lookups.{has-child}
 use Rattle.lx_forest.proofs.Within.{is_within-parent, is_within-trans}
-use Rattle.lx_forest.specs.Forest.{Forest}
-use Rattle.lx_forest.specs.Lookups.{children_of, has, is_within, keys_within, parent_of, size_of}
+use Rattle.lx_forest.specs.Lookups.{has, is_within, keys_within, parent_of, size_of}
 use Rattle.lx_node.specs.declared.fields.TextFields.{TextFields}
-use Rattle.lx_text.specs.Texts.{front_of, is_offset, rest_of}
+use Rattle.lx_text.specs.Texts.{is_offset}
 use Rattle.lx_trees.proofs.Siblings.{is_among-append}
 use Rattle.lx_trees.specs.Siblings.{is_among}
-use Rattle.std.proofs.Common.{Bool, List, Ok, Some, [], ap, ap₂, arith, cond, eqb, false, inl, inr, sym, true, ℕ, ◌++◌, ◌∙◌, ◌∷◌, ◌≡◌}
+use Rattle.std.proofs.Common.{List, Ok, Some, ap, arith, cond, eqb, false, inl, inr, sym, true, ℕ, ◌++◌, ◌∙◌, ◌∷◌, ◌≡◌}
 use Rattle.std.proofs.lemmas.Bool.{cases_Bool}
 
 module _ (s e i j : ℕ) (one other : TextFields) (a m z : List ℕ) (w g u v : Working) (x : Setting s e one other a m z w)
@@ -46,8 +44,11 @@ module _ (s e i j : ℕ) (one other : TextFields) (a m z : List ℕ) (w g u v : 
       let up : parent_of g.forest c ≡ Some b =
       parent_here g.forest b c d.ordered (ap (is_among c) j1.parts ∙ is_among-append c (leading g.forest b) rest ∙ grind (arith, at)) in
       let out : is_within g.forest c p ≡ false = elim (cases_Bool (is_within g.forest c p)) [
-        | inl bad ↦ absurd (grind (arith, k.apart,
-            is_within-trans g.forest b c p d.ordered (below_parent g.forest c b d.ordered up) bad))
+        | inl bad ↦ absurd (grind (
+          arith,
+          k.apart,
+          is_within-trans g.forest b c p d.ordered (below_parent g.forest c b d.ordered up) bad,
+        ))
         | inr fine ↦ fine
       ] in
       same_keys g.forest u.forest s e p b (leading g.forest b) rest j1 c (has-child g.forest c b up) out
