@@ -8,6 +8,11 @@ export interface ViewOptions {
   styles?: readonly string[];
   /** Hosts that are there already. They are drawn at once, and from then on by this view instead of an earlier one. */
   hosts?: Hosts;
+  /**
+   * Where documents are long: so many children of host 0 are together in a `div` of class `blocks`, up to twice as many
+   * where some come between. A browser lays out few groups sooner than many blocks. Without it there are none.
+   */
+  groups?: number;
 }
 
 /**
@@ -34,6 +39,9 @@ export class View {
 
   /** The element that its children, or its text, are in: of a tag such as `mark>strong` the inner one. */
   insideOf(host: Host): Element;
+
+  /** Whether a node is one of the groups that the children of host 0 are in. They are in its element. */
+  isGroup(node: Node | null): boolean;
 
   /** Its text node, or null if it has no text. */
   textOf(host: Host): Text | null;

@@ -4,6 +4,7 @@
 //   const reply = editor.line(line);
 //   if (reply.ops) view.apply(reply.ops);
 import { drawnValue, namesAfter } from './drawn.js';
+import { Groups } from './groups.js';
 import { HostTree } from './host-tree.js';
 import { Hosts } from './hosts.js';
 import { safeProperties, safeSchemes } from './safe.js';
@@ -24,6 +25,8 @@ export class View {
   element;
   #document;
   #lists;
+  /** @type {Groups | null} */
+  #groups = null;
   /** @type {WeakMap<HostNode, Drawn>} */
   #drawn = new WeakMap();
   /**
@@ -37,7 +40,7 @@ export class View {
    * @param {ViewOptions} [options]
    */
   constructor(element, options = {}) {
-    const { schemes = [], styles = [], hosts = new Hosts() } = options;
+    const { schemes = [], styles = [], hosts = new Hosts(), groups } = options;
     const tree = /** @type {unknown} */ (hosts);
     if (element?.nodeType !== 1) throw new TypeError('a view is drawn into an element');
     if (!(tree instanceof HostTree)) throw new TypeError('the hosts of a view are Hosts');
@@ -48,6 +51,7 @@ export class View {
       properties: [...safeProperties, ...words('styles', styles)],
     };
     for (const host of tree) this.#make(host);
+    if (groups !== undefined) this.#groups = new Groups(this.#of(tree.root).inside, groups);
     for (const host of tree) for (const child of host.children) this.#put(child, host, null);
     this.element = this.#of(tree.root).outer;
     element.replaceChildren(this.element);
@@ -91,6 +95,11 @@ export class View {
     return this.#of(host).text;
   }
 
+  /** @param {Node | null} node */
+  isGroup(node) {
+    return this.#groups?.has(node) ?? false;
+  }
+
   /** @param {HostNode} host */
   #of(host) {
     const drawn = this.#drawn.get(host);
@@ -108,7 +117,7 @@ export class View {
     switch (effect.name) {
       case 'create': this.#make(host); break;
       case 'place': this.#put(host, effect.parent, effect.before); break;
-      case 'drop': this.#of(host).outer.remove(); break;
+      case 'drop': this.#remove(host); break;
       case 'text': this.#showText(host); break;
       case 'attr': this.#showAttribute(host, effect.attribute); break;
       case 'break': this.#showEnding(host); break;
@@ -133,10 +142,19 @@ export class View {
    * @param {HostNode | null} before
    */
   #put(host, parent, before) {
-    const { inside, ending } = this.#of(parent);
-    const next = before ? this.#of(before).outer : ending;
+    const { inside, ending } = this.#of(parent), { outer } = this.#of(host), left = outer.parentNode;
+    const next = before && this.#of(before).outer, behind = next ?? ending;
     // Where something else has moved an element of the page, what can't go before it goes to the end.
-    inside.insertBefore(this.#of(host).outer, next?.parentNode === inside ? next : null);
+    if (this.#groups && parent.id === 0) this.#groups.put(outer, next, ending);
+    else inside.insertBefore(outer, behind?.parentNode === inside ? behind : null);
+    this.#groups?.tidy(left);
+  }
+
+  /** @param {HostNode} host */
+  #remove(host) {
+    const { outer } = this.#of(host), left = outer.parentNode;
+    outer.remove();
+    this.#groups?.tidy(left);
   }
 
   /**

@@ -55,12 +55,23 @@ function pointAt(view, node, offset) {
  */
 function nodeBehind(view, host, node, offset) {
   const inside = view.insideOf(host);
-  if (node === inside) return inside.childNodes[offset] ?? null;
+  /** @type {(node: Node | null) => boolean} */
+  const isAround = around => around === inside || view.isGroup(around);
+  if (isAround(node)) return node.childNodes[offset] ?? (node === inside ? null : node.nextSibling);
   /** @type {Node | null} */
   let child = node;
-  while (child !== null && child.parentNode !== inside) child = child.parentNode;
+  while (child !== null && !isAround(child.parentNode)) child = child.parentNode;
   if (child === null) return offset === 0 ? inside.firstChild : null; // in the outer element of two
-  return offset === 0 ? child : child.nextSibling;
+  return offset === 0 ? child : nextOf(view, child);
+}
+
+/**
+ * The node behind another one; behind the last one of a group it is the next group.
+ * @param {View} view
+ * @param {Node} node
+ */
+function nextOf(view, { nextSibling, parentNode }) {
+  return nextSibling ?? (parentNode && view.isGroup(parentNode) ? parentNode.nextSibling : null);
 }
 
 /**
@@ -86,7 +97,8 @@ function isBehind(view, host, text, node, offset) {
  */
 function childrenBefore(view, host, node, offset) {
   let behind = nodeBehind(view, host, node, offset);
-  for (; behind !== null; behind = behind.nextSibling) {
+  for (; behind !== null; behind = nextOf(view, behind)) {
+    if (view.isGroup(behind)) behind = behind.firstChild ?? behind;
     const shown = view.hostAround(behind); // of an ending, or of what isn't of the view, the host itself
     if (shown !== null && shown.parent === host) return indexOf(shown);
   }
@@ -107,7 +119,9 @@ export function placeOf(view, [key, offset, kind]) {
     return text !== null && offset <= text.data.length ? [text, offset] : null;
   }
   if (host.text !== null || isLeaf(host) || offset > host.children.length) return null;
-  return [view.insideOf(host), offset === 0 ? 0 : placeBehind(view.elementOf(host.children[offset - 1]))];
+  const child = host.children[offset === 0 ? 0 : offset - 1], shown = child && view.elementOf(child);
+  const inside = shown && view.isGroup(shown.parentNode) ? shown.parentNode : view.insideOf(host);
+  return [/** @type {Node} */ (inside), offset === 0 ? 0 : placeBehind(shown)];
 }
 
 /**

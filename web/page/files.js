@@ -6,6 +6,7 @@ import { documentFromMarkdown, markdownFromDocument } from '../markdown.js';
 import { menu } from './menu.js';
 import { isPressed } from './shortcuts.js';
 import { documentOf, documentOfText } from './slices.js';
+import { titleOf } from './titles.js';
 
 /** @typedef {import('./page.js').Page} Page */
 /** @typedef {import('../replies.js').Document} Document */
@@ -123,7 +124,7 @@ function begin(page, kept) {
  * @param {Kept} [kept]
  */
 function forget(page, kept) {
-  if (confirm(`Delete “${titleOf(page)}” from this browser? This can’t be undone.`)) kept?.forget?.();
+  if (confirm(`Delete “${titleOf(page) || 'Document'}” from this browser? This can’t be undone.`)) kept?.forget?.();
 }
 
 /**
@@ -194,7 +195,7 @@ function documentOfJson(text) {
  */
 async function save(page, kind) {
   const { state } = await page.ask({ show: 'state' });
-  const title = titleOf(page);
+  const title = titleOf(page) || 'Document';
   const { text, type, lost = [] } = writers[kind](/** @type {Document} */ (state), title);
   const link = document.createElement('a');
   link.href = URL.createObjectURL(new Blob([text], { type }));
@@ -203,12 +204,6 @@ async function save(page, kind) {
   setTimeout(() => URL.revokeObjectURL(link.href), 60_000); // once the browser has read it
   if (lost.length > 0) page.notify(`Saved.${without(lost)}`);
   page.focus();
-}
-
-/** @param {Page} page */
-function titleOf({ view: { element } }) {
-  const texts = Array.from(element.children, child => child.textContent?.trim() ?? '');
-  return (texts.find(text => text !== '') ?? 'Document').slice(0, 60);
 }
 
 /** @param {string} title */

@@ -11,11 +11,20 @@ export function keepInSight(page) {
   page.on('settled', () => {
     if (!isWanted || isWaiting) return;
     isWaiting = true;
-    requestAnimationFrame(() => {
-      isWanted = isWaiting = false;
-      scrollToCaret(page);
-      requestAnimationFrame(() => scrollToCaret(page)); // blocks that came in sight may be higher than was guessed
-    });
+    bringInSight(page, () => { isWanted = isWaiting = false; });
+  });
+}
+
+/**
+ * Scrolls to the caret before the next frame, if it is out of sight.
+ * @param {import('./page.js').Page} page
+ * @param {() => void} [begins] called as it begins
+ */
+export function bringInSight(page, begins = () => {}) {
+  requestAnimationFrame(() => {
+    begins();
+    scrollToCaret(page);
+    requestAnimationFrame(() => scrollToCaret(page)); // blocks that came in sight may be higher than was guessed
   });
 }
 

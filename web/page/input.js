@@ -1,6 +1,8 @@
 // What a person does with keys, the mouse, and the browser's own commands, as acts.
+import { edgeOf } from '../hosts-order.js';
 import { selectionIn } from '../selection.js';
 import { cellAt } from './cells.js';
+import { bringInSight } from './in-sight.js';
 import { enter, type } from './markdown-typing.js';
 import { blockAt, isRange, linesIn } from './ranges.js';
 
@@ -58,6 +60,11 @@ export function listenToInput(page) {
     const isMod = event.ctrlKey || event.metaKey;
     const isToLeave = isTabFree && event.key === 'Tab';
     if (event.key !== 'Shift') isTabFree = event.key === 'Escape';
+    if (isMod && isToEnd(event) !== null) {
+      event.preventDefault();
+      page.act(atEnd(page, isToEnd(event), event.shiftKey)).then(() => bringInSight(page));
+      return;
+    }
     const held = (isMod ? 'Mod+' : '') + (event.shiftKey ? 'Shift+' : '');
     const line = event.key === 'Tab' && !isMod && !isToLeave
       ? tabbed(page, event.shiftKey)
@@ -101,6 +108,19 @@ function tabbed(page, isBack) {
   if (!isItem && cellAt(hosts, selected)) return command(isBack ? 'previous-cell' : 'next-cell');
   const isMoved = isItem || isBack || (isRange(selected) && linesIn(hosts, selected).length > 1);
   return isMoved ? command(isBack ? 'outdent' : 'indent') : command('insert-tab');
+}
+
+/** Whether a key with Ctrl or Cmd goes to the end of the document, or to its start; null for others. */
+function isToEnd({ key, metaKey }) {
+  if (key === 'End' || (metaKey && key === 'ArrowDown')) return true;
+  return key === 'Home' || (metaKey && key === 'ArrowUp') ? false : null;
+}
+
+/** The caret goes to the end of the document, or to its start: a browser finds none that is out of sight. */
+function atEnd({ selected, view: { hosts } }, isEnd, isExtending) {
+  const focus = edgeOf(hosts.root, !isEnd);
+  const anchor = isExtending && isRange(selected) ? selected.anchor : focus;
+  return { update: [{ select: { anchor, focus } }] };
 }
 
 /** The item whose check mark is clicked, or null: the mark stands beside the item. */

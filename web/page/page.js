@@ -17,6 +17,8 @@ import { startLines } from './rules.js';
 /** @typedef {import('../replies.js').Reply} Reply */
 /** @typedef {import('../replies.js').ReplySelection} ReplySelection */
 
+const GROUP = 64; // blocks that are together in an element: style.css guesses its height
+
 export class Page {
   /** Shows the core's view; `view.element` is what one types in. */
   view;
@@ -59,7 +61,7 @@ export class Page {
   /** Use `Page.open`. */
   constructor(element, editor, log, now) {
     this.editor = editor;
-    this.view = new View(element, { hosts: this.#hostsAfter(log, now) });
+    this.view = new View(element, { hosts: this.#hostsAfter(log, now), groups: GROUP });
     Object.assign(this.view.element, { contentEditable: 'true', role: 'textbox', ariaMultiLine: 'true' });
     this.view.element.ariaLabel = 'Document';
     showDirections(this.view);

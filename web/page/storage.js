@@ -1,6 +1,7 @@
 // The document in the browser's storage: as the log of its lines, so that a reload has everything, history and all.
 import { linesAnew } from './anew.js';
 import { documentsIn, Log } from './log.js';
+import { titleOf } from './titles.js';
 
 /** @typedef {import('./page.js').Page} Page */
 /** @typedef {import('../lines.js').Line} Line */
@@ -220,13 +221,4 @@ function forgetTab() {
 function isToKeep(line, reply) {
   if (reply.refused || line.show !== undefined) return false;
   return !reply.idle || line.rule !== undefined;
-}
-
-/** @param {Page} page */
-function titleOf({ view: { element } }) {
-  for (const child of element.children) {
-    const text = child.textContent?.trim() ?? '';
-    if (text !== '') return text.slice(0, 60);
-  }
-  return '';
 }

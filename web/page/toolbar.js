@@ -94,8 +94,8 @@ const namesWithKeys = Object.keys(controls).filter(name => controls[name].keys);
 /** Whether there is one empty paragraph and nothing else. */
 function isEmpty({ view: { element, hosts } }) {
   if (element.firstElementChild === null || element.firstElementChild.nextElementSibling) return false;
-  const [first] = hosts.root.children;
-  return first.tag === 'p' && first.children.length === 0;
+  const [first, second] = hosts.root.children; // all of one group
+  return first.tag === 'p' && first.children.length === 0 && second === undefined;
 }
 
 /** The type of the block, as its menu's button shows it: there may be headings that the menu hasn't. */

@@ -219,7 +219,7 @@ test('arguments that are none', { skip }, () => {
 });
 
 test('nothing is set as HTML', () => {
-  for (const file of ['dom.js', 'drawn.js', 'safe.js']) {
+  for (const file of ['dom.js', 'drawn.js', 'groups.js', 'safe.js']) {
     const source = readFileSync(join(web, file), 'utf8');
     assert.doesNotMatch(source, /innerHTML|outerHTML|insertAdjacentHTML|\.write|ContextualFragment|DOMParser|eval/);
   }

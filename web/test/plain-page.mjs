@@ -13,6 +13,10 @@ class PageNode {
     return this.childNodes[0] ?? null;
   }
 
+  get lastChild() {
+    return this.childNodes.at(-1) ?? null;
+  }
+
   get nextSibling() {
     return this.#beside(1);
   }

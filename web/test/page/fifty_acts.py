@@ -115,7 +115,8 @@ ALL = [
         page.press('control+z'), page.paste_of(page.copied('text', 0, 'text', 4), 'Plan')),
      '<span>Plan</span><mark'),
     ('what an extension puts in is taken back', lambda page: page.driver.execute_script(
-        'page.view.element.firstChild.append("junk"); page.view.element.append(document.createElement("b"))'),
+        'for (const each of [page.view.element, ...page.view.element.querySelectorAll(".blocks, p")])'
+        ' each.append("junk", document.createElement("b"))'),
      '</p></div>'),
     ('all goes', lambda page: page.keys(['control+a', 'delete']), '<div><p><br></p></div>'),
     ('and comes back', lambda page: page.press('control+z'), '</table><p>'),

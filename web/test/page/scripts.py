@@ -1,7 +1,7 @@
 """What runs in the page, for browser.py."""
 
 # An element as HTML, as the core writes it, but for what the page adds by itself: attributes of the document's element,
-# and `dir="auto"` of its blocks.
+# groups of its blocks, and `dir="auto"` of these.
 WRITE = r"""
 const escaped = text => text.replace(/[&<>"]/g, c => ({ '&': '&amp;', '<': '&lt;', '>': '&gt;', '"': '&quot;' })[c]);
 const isTold = (node, name) => node.parentNode?.localName !== 'main' && (name !== 'dir' || node.dir !== 'auto');
@@ -10,6 +10,7 @@ function htmlOf(node) {
   const names = node.getAttributeNames().filter(name => isTold(node, name)).sort();
   const attributes = names.map(name => ` ${name}="${escaped(node.getAttribute(name))}"`);
   const inside = [...node.childNodes].map(htmlOf).join('');
+  if (node.classList.contains('blocks')) return inside;
   const start = `<${node.localName}${attributes.join('')}>`;
   return ['br', 'hr'].includes(node.localName) ? start : `${start}${inside}</${node.localName}>`;
 }

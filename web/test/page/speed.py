@@ -1,6 +1,8 @@
 #!/usr/bin/env python3
 """How long a key takes, from its event until the page is changed and the caret is put back, in a small document and in
-one of 16,000 nodes. It fails where that is too long, as it may be on a busy machine: so `run` leaves it out.
+one of 16,000 nodes. That has the layout in it, which the caret asks for, but no painting: beside it stands what the
+page's thread does for a key in all. It fails where a key takes too long, as it may be on a busy machine: so `run` leaves
+it out.
 
     web/test/page/speed.py [--keys 300]
 """
@@ -26,8 +28,9 @@ page.on('settled', () => {
 """
 
 CARET = r"""
-const [index] = arguments, block = page.view.element.children[index];
-getSelection().collapse(block.firstChild.firstChild, 5);
+const [index, offset] = arguments, block = page.view.element.querySelectorAll('p')[index];
+const text = block.firstChild.firstChild;
+getSelection().collapse(text, offset < 0 ? text.length : offset);
 block.scrollIntoView({ block: 'center' });
 """
 
@@ -41,16 +44,26 @@ def document(paragraphs):
 
 
 def measured(page, paragraphs, keys):
-    """Milliseconds of each key, in order, typed at several places."""
+    """Milliseconds of each key, in order, typed at several places; and those of the thread for a key."""
     page.anew()
     page.act({'load': document(paragraphs)})
     page.driver.execute_script(TIMES)
-    chance = random.Random(paragraphs)
+    page.driver.execute_cdp_cmd('Performance.enable', {'timeDomain': 'threadTicks'})
+    chance, busy = random.Random(paragraphs), 0
     for _ in range(10):
-        page.driver.execute_script(CARET, chance.randrange(paragraphs))
+        page.driver.execute_script(CARET, chance.randrange(paragraphs), 5)
+        page.rest()
+        before = thread_time(page)
         page.keys([chance.choice('abcdefgh ') for _ in range(keys // 10)], 0.02)
-    page.rest()
-    return sorted(page.driver.execute_script('return times'))
+        page.rest()
+        busy += thread_time(page) - before
+    times = sorted(page.driver.execute_script('return times'))
+    return times, 1000 * busy / len(times)
+
+
+def thread_time(page):
+    metrics = page.driver.execute_cdp_cmd('Performance.getMetrics', {})['metrics']
+    return next(metric['value'] for metric in metrics if metric['name'] == 'TaskDuration')
 
 
 def main():
@@ -60,9 +73,10 @@ def main():
     results = Results()
     with opened() as page:
         for name, (paragraphs, most_median, most_last) in SIZES.items():
-            times = measured(page, paragraphs, words.keys)
+            times, thread = measured(page, paragraphs, words.keys)
             median, last = times[len(times) // 2], times[len(times) * 99 // 100]
-            told = f'{name}: {median:.1f} ms at the median, {last:.1f} at the 99th percentile, of {len(times)} keys'
+            told = (f'{name}: {median:.1f} ms at the median, {last:.1f} at the 99th percentile, of {len(times)} keys; '
+                    f'{thread:.1f} of the thread')
             is_slow = median > most_median or last > most_last
             results.add(told, [f'at most {most_median} and {most_last}'] if is_slow else [])
         return results.end(page)
