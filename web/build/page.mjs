@@ -5,8 +5,9 @@
 //     node web/build/page.mjs --check    says whether it is what would be made
 //
 // Each script becomes a function that answers what it exports, behind those that it imports. So there is one script,
-// and no name of one meets that of another. Scripts that import each other in a circle can't be put in order. What they
-// say of types is left out.
+// and no name of one meets that of another. Scripts that import each other in a circle can't be put in order. Comments
+// with lines of their own are left out. Styles, script and module are packed by gzip; the file begins with what unpacks
+// them.
 import { existsSync, readFileSync, writeFileSync } from 'node:fs';
 import { dirname, join, relative } from 'node:path';
 import { fileURLToPath } from 'node:url';
@@ -15,13 +16,12 @@ import { gunzipSync, gzipSync } from 'node:zlib';
 const web = fileURLToPath(new URL('..', import.meta.url));
 const made = join(web, 'playground.html');
 const read = file => readFileSync(join(web, file), 'utf8');
-const packedModule = /(<script type="application\/gzip" id="lexical-wasm">\n)([^<]*)(<\/script>)/;
 
 const fromOther = /^(import|export) (\{[^}]*\}|\* as \w+|\*|\w+) from '(\.[^']+)';[^\n]*\n/gm;
 const forEffect = /^import '(\.[^']+)';[^\n]*\n/gm;
 const declared = /^export ((?:async )?function\*?|class|const) (\w+)/gm;
 const listed = /^export \{([^}]*)\};[^\n]*\n/gm;
-const ofTypes = /^[ \t]*\/\*\*(?:(?!\*\/)[^])*\*\/[ \t]*\n/gm; // comments with lines of their own
+const comments = /^[ \t]*(?:\/\*\*(?:(?!\*\/)[^])*\*\/[ \t]*|\/\/.*)\n/gm; // with lines of their own
 const dynamic = /\bawait import\('(\.[^']+)'\)/g;
 
 /** What a script is called in the file: names of files have no underscore. */
@@ -45,7 +45,7 @@ function gather(file, gathered, waiting = []) {
   };
   const answered = [];
   const body = read(file)
-    .replace(ofTypes, '')
+    .replace(comments, '')
     .replace(fromOther, (_, word, names, path) => {
       const from = at(path);
       if (word === 'import') return importOf(names, from);
@@ -76,32 +76,47 @@ function importOf(names, from) {
   return `const { ${taken.join(', ')} } = ${from};\n`;
 }
 
-/** No script may have in it what ends the element that it is in. */
-const within = script => script.replace(/<\/(script)/gi, '<\\/$1').replace(/<!--/g, '<\\!--');
-
 function scriptOf(file) {
   const gathered = new Map();
   gather(file, gathered);
-  return within([...gathered.values()].join('\n'));
+  return [...gathered.values()].join('\n');
 }
 
-/** The module, as the file has it already if it is the same: other versions of zlib write other bytes. */
-function packedBytes() {
-  const bytes = readFileSync(join(web, 'lexical.wasm'));
-  const kept = existsSync(made) && packedModule.exec(readFileSync(made, 'utf8'))?.[2];
-  if (kept && gunzipSync(Buffer.from(kept, 'base64')).equals(bytes)) return kept;
-  return `${gzipSync(bytes, { level: 9 }).toString('base64').replace(/.{1,120}/g, '$&\n')}`;
+/** Unpacks the styles and the script in the page. page/module.js does the same for the module. */
+const unpacking = `<script type="module">
+// What is packed above lies in web/, as it is written. These are its styles and its script.
+for (const name of ['style', 'script']) {
+  const packed = atob(document.getElementById(\`packed-\${name}\`).textContent);
+  const bytes = Uint8Array.from(packed, character => character.charCodeAt(0));
+  const unpacked = new Blob([bytes]).stream().pipeThrough(new DecompressionStream('gzip'));
+  const element = document.createElement(name);
+  if (name === 'script') element.type = 'module';
+  element.textContent = await new Response(unpacked).text();
+  document.head.append(element);
+}
+</script>`;
+
+/** What is packed, as the file has it already if it is the same: other versions of zlib write other bytes. */
+function packed(id, content) {
+  const start = `<script type="application/gzip" id="${id}">\n`, bytes = Buffer.from(content);
+  const kept = existsSync(made) && readFileSync(made, 'utf8').split(start)[1]?.split('<')[0];
+  const isKept = kept && gunzipSync(Buffer.from(kept, 'base64')).equals(bytes);
+  const text = isKept ? kept : gzipSync(bytes, { level: 9 }).toString('base64').replace(/.{1,120}/g, '$&\n');
+  return `${start}${text}</script>\n`;
 }
 
 /** The text of the file. */
-export function pageText() {
-  const packed = `<script type="application/gzip" id="lexical-wasm">\n${packedBytes()}</script>`;
-  return read('index.html')
+function pageText() {
+  const styles = [];
+  const page = read('index.html')
     .replace('<title>', `<!-- web/build/page.mjs makes this file of others in web/: change nothing here. -->\n<title>`)
-    .replace(/<link rel="stylesheet" href="([^"]+)">/g, (_, file) => `<style>\n${read(file).trim()}\n</style>`)
-    .replace(/<script type="module" src="([^"]+)"><\/script>/, (_, file) => (
-      `${packed}\n<script type="module">\n${scriptOf(file)}</script>`
-    ));
+    .replace(/<link rel="stylesheet" href="([^"]+)">\n/g, (_, file) => `${styles.push(read(file)) && ''}`);
+  return page.replace(/<script type="module" src="([^"]+)"><\/script>/, (_, file) => [
+    packed('packed-style', styles.join('\n')),
+    packed('packed-script', scriptOf(file)),
+    packed('lexical-wasm', readFileSync(join(web, 'lexical.wasm'))),
+    unpacking,
+  ].join(''));
 }
 
 if (process.argv[1] === fileURLToPath(import.meta.url)) {
