@@ -1,6 +1,6 @@
 // Cells of a table: those that are selected, what they lose, and the next one.
-import { cellOf, edgeOf, indexOf, isCell, nearest } from '../hosts-order.js';
-import { below, caretAt, isRange } from './ranges.js';
+import { cellOf, edgeOf, indexOf, isBefore, isBlock, isCell, isList, nearest } from '../hosts-order.js';
+import { below, blockAt, caretAt, isAtStart, isCaret, isRange } from './ranges.js';
 
 /** @typedef {import('../hosts.js').Host} Host */
 /** @typedef {import('../hosts.js').Hosts} Hosts */
@@ -127,4 +127,25 @@ export function tableRemoved(table) {
   const next = children[at + 1], before = children[at - 1];
   const point = next ? edgeOf(next, true) : before ? edgeOf(before, false) : null;
   return [{ select: point && caretAt(point) }, { remove: table.key }];
+}
+
+/**
+ * The steps by which Backspace right behind a table, or Delete right before one, takes the caret into it; null elsewhere.
+ * Nothing can be joined with a table, and none goes unawares. An empty block goes if another one is on its other side.
+ * @param {Hosts} hosts
+ * @param {Selection} selection
+ * @param {boolean} isBack
+ * @returns {Step[] | null}
+ */
+export function intoTable(hosts, selection, isBack) {
+  const block = isCaret(selection) ? blockAt(hosts, selection.anchor) : null;
+  if (block === null) return null;
+  const { anchor } = selection, isAtEnd = () => !isBefore(hosts, anchor, edgeOf(block, false));
+  if (isBack ? !isAtStart(hosts, anchor, block) : !isAtEnd()) return null;
+  const { children } = block.parent, at = indexOf(block), step = isBack ? -1 : 1;
+  const table = children[at + step], other = children[at - step];
+  if (table?.tag !== 'table') return null;
+  const isNeedless = block.children.length === 0 && other !== undefined && (isBlock(other) || isList(other));
+  const caret = { select: caretAt(edgeOf(table, !isBack, true)) };
+  return isNeedless ? [caret, { remove: block.key }] : [caret];
 }

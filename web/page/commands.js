@@ -2,7 +2,7 @@
 // in one frame: where cells are selected, or a table from its midst on, the page says what is done instead.
 import { edgeOf, indexOf, isCell } from '../hosts-order.js';
 import { aligned, blocksMade, liftedBy } from './blocks.js';
-import { cellAt, cellsIn, emptied, formatted, nextCell, tableOf, tableRemoved } from './cells.js';
+import { cellAt, cellsIn, emptied, formatted, intoTable, nextCell, tableOf, tableRemoved } from './cells.js';
 import { formatBits, formatOf } from './formats.js';
 import { linked, linksIn, unlinked } from './link-lines.js';
 import { outsideLink } from './outside-links.js';
@@ -40,6 +40,7 @@ for (const name of Object.keys(blockCommands)) {
 /** Commands that put something at a caret, for which there has to be a block. */
 const inserting = new Set(['insert-text', 'insert-tab', 'insert-line-break', 'paste']);
 const deleting = new Set(['remove-text', 'delete-character', 'delete-word', 'cut']);
+const ofOneSide = new Set(['delete-character', 'delete-word']);
 const ofLines = new Set(['make-list', 'remove-list', 'indent', 'outdent']);
 
 const updated = update => ({ lines: [{ update }] });
@@ -72,6 +73,8 @@ function ofCore(place, line) {
     if (lifting === 'outdent') return { dispatch: 'outdent' };
     if (lifting) return own[lifting](place).lines[0];
   }
+  const steps = ofOneSide.has(name) ? intoTable(hosts, selection, payload === 'back') : null;
+  if (steps) return { update: steps };
   const isBetweenBlocks = inserting.has(name) && isRange(selection) && hasNoBlock(hosts, selection);
   return isBetweenBlocks ? { update: [{ dispatch: 'insert-paragraph' }, line] } : line;
 }

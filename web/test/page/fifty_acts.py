@@ -106,6 +106,12 @@ TABLES = [
     ('typing over selected cells empties them', lambda page: (page.select('Sort', 0, 'Price', 5), page.type('X')),
      '<tr><th><p><span>X</span></p></th><th><p><br></p></th></tr>'),
     ('undo of that', lambda page: page.press('control+z'), '>Price</span>'),
+    ('Backspace behind it goes into its last cell', lambda page: page.keys(['control+end', 'backspace', 'Y']),
+     '<td><p><span>Y</span></p></td></tr></table><p><br></p></div>'),
+    ('Delete before it goes into its first cell', lambda page: (page.caret('Teas'), page.keys(['delete', 'Z'])),
+     '<p><span>Teas</span></p><table><tr><th><p><span>ZSort'),
+    ('an empty block behind it goes', lambda page: page.keys(['control+end', 'enter', 'arrow_up', 'backspace', 'X']),
+     '<td><p><span>YX</span></p></td></tr></table><p><br></p></div>'),
 ]
 
 ALL = [
