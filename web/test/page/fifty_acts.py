@@ -86,6 +86,14 @@ LISTS = [
      '<li aria-checked="true" role="checkbox" value="2">'),
     ('an empty item ends the list', lambda page: (page.caret('honey'), page.press('enter', 2)),
      '</ul><p><br></p></div>'),
+    ('a list that begins at 3', lambda page: page.type('3. three'),
+     '<ol start="3"><li value="3"><span>three</span></li></ol></div>'),
+    ('two undos give back its mark', lambda page: page.press('control+z', 2), '<p><span>3. </span></p></div>'),
+    ('bold and code as Markdown has them', lambda page: page.keys([*['backspace'] * 3, *'a **bold** 2*3* `code`!']),
+     '<p><span>a </span><strong class="bold">bold</strong><span> 2*3* </span><code class="code"><span>code</span>'
+     '</code><span>!</span></p></div>'),
+    ('two undos give back the marks', lambda page: page.press('control+z', 2), '<span> 2*3* `code`</span></p></div>'),
+    ('the block is emptied', lambda page: page.keys(['shift+home', 'backspace']), '<p><br></p></div>'),
 ]
 
 TABLES = [

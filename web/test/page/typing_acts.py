@@ -28,6 +28,9 @@ KNOWN = [
     ('Enter in the midst', [*'abcd', *['arrow_left'] * 2, 'enter', 'X'], ['ab', 'Xcd']),
     ('items, a level down and up', [*'- one', 'enter', *'two', 'tab', 'X', 'enter', 'shift+tab', *'three'],
      ['one', 'twoX', 'three']),
+    ('marks around words', [*'a **b** *c* `d`~~e~~ ~~f~~g'], ['a b c de fg']),
+    ('marks that come back', [*'*one*', 'control+z', *' two*', 'control+z'], ['*one*']),
+    ('a list that begins at 12', [*'12. one', 'enter', *'two'], ['one', 'two']),
     ('a heading, and a paragraph behind it', [*'## Head', 'enter', *'text', 'arrow_up', 'end', '!'], ['Head!', 'text']),
 ]
 
