@@ -168,7 +168,7 @@ export class View {
       this.#hosts.set(drawn.text, host);
     }
     if (drawn.text.parentNode !== drawn.inside) drawn.inside.insertBefore(drawn.text, drawn.inside.firstChild);
-    if (drawn.text.data !== data) drawn.text.data = data;
+    if (drawn.text.data !== data) rewrite(drawn.text, data);
   }
 
   /**
@@ -191,6 +191,19 @@ export class View {
     else drawn.ending?.remove();
     if (!host.ending) drawn.ending = null;
   }
+}
+
+/**
+ * Writes into a text what is new alone: a browser then lays out less of it, and leaves its caret where that can stay.
+ * @param {Text} text
+ * @param {string} data
+ */
+function rewrite(text, data) {
+  const was = text.data, shorter = Math.min(was.length, data.length);
+  let start = 0, end = 0;
+  while (start < shorter && was[start] === data[start]) start += 1;
+  while (end < shorter - start && was[was.length - 1 - end] === data[data.length - 1 - end]) end += 1;
+  text.replaceData(start, was.length - start - end, data.slice(start, data.length - end));
 }
 
 /**

@@ -130,7 +130,7 @@ export function tableRemoved(table) {
 }
 
 /**
- * The steps by which Backspace right behind a table, or Delete right before one, takes the caret into it; null elsewhere.
+ * The steps by which Backspace right behind a table, or Delete right before one, goes into it; null elsewhere.
  * Nothing can be joined with a table, and none goes unawares. An empty block goes if another one is on its other side.
  * @param {Hosts} hosts
  * @param {Selection} selection

@@ -124,7 +124,8 @@ function begin(page, kept) {
  * @param {Kept} [kept]
  */
 function forget(page, kept) {
-  if (confirm(`Delete “${titleOf(page) || 'Document'}” from this browser? This can’t be undone.`)) kept?.forget?.();
+  const title = titleOf(page) || 'Document';
+  if (confirm(`Delete “${title}” from this browser? This can’t be undone.`)) kept?.forget?.();
 }
 
 /**

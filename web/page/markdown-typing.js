@@ -1,6 +1,6 @@
 // Markdown's marks as they are typed: with one at its start and a space, a paragraph becomes a heading, a list or a
-// quote, and what stands between two stars or others gets a format. The last character is typed first, so one undo gives
-// back the marks as they were typed.
+// quote, and what stands between two stars or others gets a format. The last character is typed first, so that one undo
+// gives back the marks as they were typed.
 import { edgeOf, indexOf } from '../hosts-order.js';
 import { formatBits, formatOf } from './formats.js';
 import { blockAt, caretAt, isCaret } from './ranges.js';
@@ -26,7 +26,7 @@ const marks = {
   '[x]': [...list('check'), { dispatch: 'toggle-checked' }],
 };
 
-/** @type {[string, RegExp][]} formats, with what stands before the caret then: words, in marks that no word is before */
+/** @type {[string, RegExp][]} formats, with what is before the caret then: words in marks, behind no word */
 const inline = [
   ['bold', /(?<![\p{L}\p{N}])\*\*(?!\s)([^*]+)(?<!\s)\*\*$/u],
   ['italic', /(?<![\p{L}\p{N}*])\*(?!\s)([^*]+)(?<!\s)\*$/u],
@@ -105,7 +105,8 @@ async function format(page) {
   await page.act({
     tags: ['history-push'],
     update: [
-      range(offset - mark, offset), { dispatch: 'remove-text' }, range(start, start + mark), { dispatch: 'remove-text' },
+      range(offset - mark, offset), { dispatch: 'remove-text' },
+      range(start, start + mark), { dispatch: 'remove-text' },
       range(start, start + content.length), formatting,
       { select: caretAt(['@focus', content.length, 'text']) }, formatting,
     ],

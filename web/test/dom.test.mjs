@@ -210,6 +210,25 @@ test('a text keeps its node, and gets it back where typing took it away', { skip
   compareDrawn(view);
 });
 
+test('of a text only what is new is written, so that a caret stays where that can be', { skip }, () => {
+  const view = newView(), range = window.document.createRange();
+  view.apply(begun);
+  const text = view.textOf(view.hosts.get(2));
+  const caretAfter = (was, offset, is) => {
+    view.apply([['text', 2, was]]);
+    range.setStart(text, offset);
+    view.apply([['text', 2, is]]);
+    assert.equal(text.data, is);
+    return range.startOffset;
+  };
+  assert.equal(caretAfter('abcd', 3, 'abd'), 2);
+  assert.equal(caretAfter('abcd', 3, 'xabcd'), 4);
+  assert.equal(caretAfter('aaa', 1, 'aa'), 1);
+  assert.equal(caretAfter('a😀b', 1, 'a😁b'), 1);
+  assert.equal(caretAfter('abc', 2, ''), 0);
+  assert.equal(caretAfter('', 0, 'abc'), 0);
+});
+
 test('arguments that are none', { skip }, () => {
   const element = newElement();
   for (const none of [null, undefined, 'main', {}, window.document]) assert.throws(() => new View(none), TypeError);

@@ -76,6 +76,10 @@ class PageText extends PageNode {
     super(ownerDocument, 3);
     this.data = data;
   }
+
+  replaceData(offset, count, data) {
+    this.data = this.data.slice(0, offset) + data + this.data.slice(offset + count);
+  }
 }
 
 /** What the browser has selected; `changes` counts how often it was set. */

@@ -45,7 +45,9 @@ def moved(page, results):
             page.press(key)
             page.driver.execute_async_script('setTimeout(arguments[0], 100)')
             index, here, length = page.driver.execute_script(FOCUS)
-            found = [] if (index, here) == (to, length if at < 0 else at) else [f'the caret is in block {index} at {here}']
+            found = []
+            if (index, here) != (to, length if at < 0 else at):
+                found.append(f'the caret is in block {index} at {here}')
             if not page.driver.execute_script(IS_SEEN):
                 found.append('the caret is out of sight')
             results.add(f'{key} in block {block}, scrolled to {scrolled}', found, tell=False)

@@ -1,8 +1,8 @@
 #!/usr/bin/env python3
 """How long a key takes, from its event until the page is changed and the caret is put back, in a small document and in
 one of 16,000 nodes. That has the layout in it, which the caret asks for, but no painting: beside it stands what the
-page's thread does for a key in all. It fails where a key takes too long, as it may be on a busy machine: so `run` leaves
-it out.
+page's thread does for a key in all. It fails where a key takes too long, as it may be on a busy machine: so `run`
+leaves it out.
 
     web/test/page/speed.py [--keys 300]
 """
