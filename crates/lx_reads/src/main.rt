@@ -11,7 +11,9 @@ use std::io::Write;
 fn main(rt: HostRuntime) -> Result<()> {
     let alloc = rt.alloc();
     let (nodes, reads, by_parents) = set_last_text(alloc)?;
-    let told = format!(in alloc; "nodes: {nodes}, reads: {reads}, by parents alone: {by_parents}\n")?;
+    let told = format!(in alloc;
+        "nodes: {nodes}, reads: {reads}, by parents alone: {by_parents}\n"
+    )?;
     rt.stdout().write_all(told.as_bytes())?;
     Ok(())
 }

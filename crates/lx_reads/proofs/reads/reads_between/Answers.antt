@@ -33,8 +33,7 @@ operations_by_parents-requires c κs =
     let told =
     may_tell old new c.new-was.result.forest c.new-is.result.forest (marking marks) view c.new-was.ensures.forest c.new-is.ensures.forest
     (order_of_one old c.has_failed.ensures.sound c.requires.old_alone) (order_of_one new c.len.ensures.sound c.requires.new_alone) c.requires.old_alone
-    c.requires.new_alone (c.in_ok-marks.ensures.covered c.requires.kinds) c.in_ok-view.ensures.shows room in
-    (
+    c.requires.new_alone (c.in_ok-marks.ensures.covered c.requires.kinds) c.in_ok-view.ensures.shows room in (
       (refl, tt),
       (
         told.rooted_before,
