@@ -1,0 +1,87 @@
+"""The log of all documents: its rows, and who is told of new ones."""
+import asyncio
+import time
+import uuid
+from collections.abc import Callable
+from typing import NamedTuple
+
+from .entry import START, Entry, Place
+from .errors import Behind
+from .statements import APPEND, BEHIND, DONE, FORGET, IS_THERE, KEEP, KEPT, PAGE
+from .store import Row as StoreRow
+from .store import Store
+
+
+class Row(NamedTuple):
+    """What a row to come has, beside its place."""
+
+    epoch: int
+    lines: bytes
+    replies: bytes
+    request: str | None = None
+    author: str | None = None
+    version: str | None = None
+
+
+class Log:
+    """The rows of all documents in a store."""
+
+    def __init__(self, store: Store) -> None:
+        self.store = store
+        self.told: Callable[[str], None] = lambda _: None  # who is to hear of a new row
+
+    async def behind(self, document: str, place: Place) -> list[Entry]:
+        """The rows that somebody at a place hasn't had, `PAGE` of them at most. They begin with the last epoch, if the
+        log doesn't have that place, or an epoch has begun since."""
+        return [_entry(row) for row in
+                await self.store.ask(BEHIND, document=document, number=place.number, id=place.row)]
+
+    async def epoch(self, document: str) -> list[Entry]:
+        """All rows of the last epoch."""
+        entries = more = await self.behind(document, START)
+        while len(more) == PAGE:
+            more = await self.behind(document, entries[-1].place)
+            entries = more if more and more[0].begins else entries + more  # an epoch may have begun meanwhile
+        return entries
+
+    async def done(self, document: str, request: str) -> Entry | None:
+        """The row of a request, if it was done, once that row is wherever a commit has to be."""
+        rows = await self.store.ask(DONE, document=document, request=request)
+        return _entry(rows[0]) if rows else None
+
+    async def is_there(self, document: str, place: Place) -> bool:
+        """Whether the log has a row."""
+        return bool(await self.store.ask(IS_THERE, document=document, number=place.number, id=place.row))
+
+    async def append(self, document: str, place: Place, row: Row) -> Entry:
+        """Makes the row that follows a place. It is `Behind` if another one does already, the request was done, or the
+        log hasn't that place any more."""
+        rows = await self.store.ask(APPEND, document=document, number=place.number, id=place.row, next=uuid.uuid4().hex,
+                                    written=int(time.time()), **row._asdict())
+        if not rows:
+            raise Behind(f"there is no row {place}")
+        self.told(document)
+        return Entry(place.number + 1, row.epoch, rows[0][0], row.lines, row.replies, row.version)
+
+    async def keep(self, document: str, place: Place, state: bytes) -> None:
+        """Keeps the state after a row with it."""
+        if not await self.store.ask(KEEP, document=document, number=place.number, id=place.row, state=state):
+            raise Behind(f"there is no row {place}")
+
+    async def kept(self, document: str, epoch: int) -> tuple[Place, bytes] | None:
+        """The last state that was kept of an epoch, and after which row."""
+        rows = await self.store.ask(KEPT, document=document, epoch=epoch)
+        return (Place(rows[0][0], rows[0][1]), rows[0][2]) if rows else None
+
+    async def forget(self, days: float) -> int:
+        """Deletes rows that are older than so many days, and before the last epoch: how many."""
+        before, count = int(time.time() - days * 86400), 0
+        while rows := await self.store.ask(FORGET, before=before):
+            count += len(rows)
+            await asyncio.sleep(0)
+        return count
+
+
+def _entry(row: StoreRow) -> Entry:
+    number, epoch, name, lines, replies, version, is_kept = row
+    return Entry(number, epoch, name, lines, replies, version, bool(is_kept))

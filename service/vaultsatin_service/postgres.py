@@ -1,0 +1,81 @@
+"""The log in PostgreSQL, for any number of workers on any machines."""
+import re
+from collections.abc import Sequence
+from typing import Any
+
+import psycopg
+from psycopg_pool import AsyncConnectionPool
+
+from .errors import Away, Behind
+from .statements import SCHEMA
+from .store import Hear, Row, Value
+
+CONNECTION: dict[str, Any] = {
+    "autocommit": True, "connect_timeout": 3, "keepalives_idle": 5, "keepalives_interval": 2, "keepalives_count": 3,
+    "tcp_user_timeout": 10000}
+POOL_SECONDS = 5  # until a connection is free
+AWAY = (psycopg.OperationalError, psycopg.errors.ReadOnlySqlTransaction)
+TELL = "select pg_notify('entry', name) from unnest(:names::text[]) as name"
+LASTS = """select name, last.id from unnest(:names::text[]) as name
+    cross join lateral (select id from entry where document = name order by number desc limit 1) as last"""
+
+
+def written(statement: str) -> bytes:
+    """A statement with its values as psycopg names them."""
+    return re.sub("(?<!:):([a-z]+)", r"%(\1)s", statement).encode()
+
+
+class Postgres:
+    """A database, as libpq finds it: an address may name several machines, of which it takes the one that may write."""
+
+    def __init__(self, address: str) -> None:
+        self.address = address
+        self._pool = AsyncConnectionPool(address, kwargs=CONNECTION, min_size=2, max_size=16, timeout=POOL_SECONDS,
+                                         open=False)
+        self._written: dict[str, bytes] = {}
+
+    async def open(self) -> None:
+        """Makes the table if it isn't there, where this user may."""
+        await self._pool.open()
+        try:
+            if not (await self.ask("select to_regclass('entry') is not null"))[0][0]:
+                async with self._pool.connection() as connection:
+                    await connection.execute(SCHEMA.encode())
+        except (Away, Behind, psycopg.Error):
+            pass  # it isn't there yet, or another worker makes the table: requests will say so
+
+    async def close(self) -> None:
+        """Ends the connections."""
+        await self._pool.close()
+
+    async def ask(self, statement: str, **values: Value) -> list[Row]:
+        """Does a statement, and waits as long as a commit does, where that waits for a standby."""
+        return await self._ask(statement, values)
+
+    async def _ask(self, statement: str, values: dict[str, Any]) -> list[Row]:
+        query = self._written.setdefault(statement, written(statement))
+        try:
+            async with self._pool.connection() as connection:
+                return await (await connection.execute(query, values, binary=True)).fetchall()
+        except AWAY as error:
+            raise Away(str(error)) from error
+        except psycopg.errors.UniqueViolation as error:
+            raise Behind(str(error)) from error
+
+    async def tell(self, documents: Sequence[str]) -> None:
+        """Tells them all at once: commits that notify wait for each other."""
+        await self._ask(TELL, {"names": list(documents)})
+
+    async def lasts(self, documents: Sequence[str]) -> list[tuple[str, str]]:
+        """The id of each document's last row."""
+        return [(row[0], row[1]) for row in await self._ask(LASTS, {"names": list(documents)})]
+
+    async def listen(self, hear: Hear) -> None:
+        """Hears what workers tell until the connection ends, which raises `Away`. So does a database without LISTEN."""
+        try:
+            async with await psycopg.AsyncConnection.connect(self.address, **CONNECTION) as connection:
+                await connection.execute("listen entry")
+                async for note in connection.notifies():
+                    hear(note.payload)
+        except psycopg.Error as error:
+            raise Away(str(error)) from error

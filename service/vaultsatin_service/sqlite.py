@@ -1,0 +1,72 @@
+"""The log in a file: for one worker, with nothing to set up."""
+import asyncio
+import pathlib
+import sqlite3
+from collections.abc import Callable, Sequence
+from concurrent.futures import ThreadPoolExecutor
+from typing import TypeVar
+
+from .errors import Away, Behind
+from .statements import SCHEMA
+from .store import Hear, Row, Value
+
+Result = TypeVar("Result")
+BUSY_SECONDS = 2.0  # until it is said that another process has the file
+
+
+class Sqlite:
+    """A file of SQLite, which this process has for itself. All statements go through one thread, one after another."""
+
+    def __init__(self, path: pathlib.Path) -> None:
+        self.path = path
+        self._thread = ThreadPoolExecutor(1, "sqlite")
+        self._connection: sqlite3.Connection | None = None
+        self._hear: Hear = lambda _: None
+
+    async def open(self) -> None:
+        """Makes the file if it isn't there."""
+        self._connection = await self._run(self._connect)
+
+    def _connect(self) -> sqlite3.Connection:
+        self.path.parent.mkdir(parents=True, exist_ok=True)
+        connection = sqlite3.connect(self.path, BUSY_SECONDS, isolation_level=None, check_same_thread=False)
+        connection.execute("pragma locking_mode = exclusive")  # a second worker is refused, rather than believed
+        connection.execute("pragma journal_mode = wal")
+        connection.execute("pragma synchronous = full")  # what is answered outlives a loss of power
+        connection.executescript(SCHEMA)
+        connection.executescript("begin exclusive; commit")  # takes the lock, until the end
+        return connection
+
+    async def close(self) -> None:
+        """Leaves the file to others."""
+        if self._connection:
+            await self._run(self._connection.close)
+        self._thread.shutdown()
+
+    async def ask(self, statement: str, **values: Value) -> list[Row]:
+        """Does a statement, and waits until it is on the disk."""
+        assert self._connection
+        connection = self._connection
+        return await self._run(lambda: connection.execute(statement, values).fetchall())
+
+    async def _run(self, act: Callable[[], Result]) -> Result:
+        try:
+            return await asyncio.get_running_loop().run_in_executor(self._thread, act)
+        except sqlite3.IntegrityError as error:
+            raise Behind(str(error)) from error
+        except sqlite3.OperationalError as error:
+            raise Away(str(error)) from error
+
+    async def tell(self, documents: Sequence[str]) -> None:
+        """Nobody else is there."""
+        for document in documents:
+            self._hear(document)
+
+    async def lasts(self, _: Sequence[str]) -> list[tuple[str, str]]:
+        """Nobody else writes."""
+        return []
+
+    async def listen(self, hear: Hear) -> None:
+        """Passes on what this worker tells itself."""
+        self._hear = hear
+        await asyncio.Event().wait()
