@@ -1,5 +1,7 @@
 """Starts a worker."""
 import asyncio
+import logging
+import socket
 import sys
 
 from aiohttp import web
@@ -9,6 +11,16 @@ from .logging_lines import log_to_stderr
 from .words import words_of
 
 SHUTDOWN_SECONDS = 10  # for requests under way
+LOG = logging.getLogger("service")
+
+
+def listening(host: str, port: int) -> socket.socket:
+    """The socket, and a log line that says where it is."""
+    family = socket.AF_INET6 if ":" in host else socket.AF_INET
+    opened = socket.create_server((host, port), family=family, backlog=128)
+    place = f"[{host}]" if ":" in host else host
+    LOG.info("listening", extra={"address": f"http://{place}:{opened.getsockname()[1]}"})
+    return opened
 
 
 def main() -> None:
@@ -21,8 +33,8 @@ def main() -> None:
         program = program_of(words)
     except OSError as error:
         sys.exit(f"there is no program: {error}. The option --core runs the module by node.")
-    web.run_app(Worker(words, program).application(), host=words.host, port=words.port,
-                shutdown_timeout=SHUTDOWN_SECONDS, access_log=None)
+    web.run_app(Worker(words, program).application(), sock=listening(words.host, words.port),
+                shutdown_timeout=SHUTDOWN_SECONDS, access_log=None, print=lambda *_: None)
 
 
 if __name__ == "__main__":

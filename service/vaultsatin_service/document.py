@@ -9,11 +9,10 @@ from dataclasses import dataclass
 from .entry import START, Entry, Place, registering
 from .errors import Behind, NoDocument, NotNow, Refusal, TooMuch, Unseen
 from .limits import MOST_INPUT, MOST_RULES, MOST_SECONDS
-from .log import Log, Row
+from .log import PAGE, Log, Row
 from .metrics import Metrics
 from .program import Program
 from .run import FLUSH, Run
-from .statements import PAGE
 
 LOG = logging.getLogger("service.document")
 NO_KEYS = b'{"refused":{"cause":"TooLarge","code":11,"detail":["key",'

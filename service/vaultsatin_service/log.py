@@ -7,9 +7,11 @@ from typing import NamedTuple
 
 from .entry import START, Entry, Place
 from .errors import Behind
-from .statements import APPEND, BEHIND, DONE, FORGET, IS_THERE, KEEP, KEPT, PAGE
+from .statements import APPEND, BEHIND, DONE, FORGET, IS_THERE, KEEP, KEPT
 from .store import Row as StoreRow
 from .store import Store
+
+PAGE = 1000  # rows that are read or deleted at once
 
 
 class Row(NamedTuple):
@@ -34,7 +36,7 @@ class Log:
         """The rows that somebody at a place hasn't had, `PAGE` of them at most. They begin with the last epoch, if the
         log doesn't have that place, or an epoch has begun since."""
         return [_entry(row) for row in
-                await self.store.ask(BEHIND, document=document, number=place.number, id=place.row)]
+                await self.store.ask(BEHIND, document=document, number=place.number, id=place.row, page=PAGE)]
 
     async def epoch(self, document: str) -> list[Entry]:
         """All rows of the last epoch."""
@@ -76,7 +78,7 @@ class Log:
     async def forget(self, days: float) -> int:
         """Deletes rows that are older than so many days, and before the last epoch: how many."""
         before, count = int(time.time() - days * 86400), 0
-        while rows := await self.store.ask(FORGET, before=before):
+        while rows := await self.store.ask(FORGET, before=before, page=PAGE):
             count += len(rows)
             await asyncio.sleep(0)
         return count

@@ -43,6 +43,10 @@ class Process:
         if self._process.returncode is None:
             self._process.kill()
 
+    async def gone(self) -> None:
+        """Waits until it has ended."""
+        await self._process.wait()
+
     def used(self) -> float:
         """Seconds of processor time that it has used, by the clock that clock_getcpuclockid(3) names."""
         try:

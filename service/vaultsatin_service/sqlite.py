@@ -41,6 +41,7 @@ class Sqlite:
         """Leaves the file to others."""
         if self._connection:
             await self._run(self._connection.close)
+        self._connection = None
         self._thread.shutdown()
 
     async def ask(self, statement: str, **values: Value) -> list[Row]:

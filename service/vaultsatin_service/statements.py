@@ -2,15 +2,15 @@
 import pathlib
 
 SCHEMA = (pathlib.Path(__file__).parent / "schema.sql").read_text(encoding="utf-8")
-PAGE = 1000  # rows that are read at once
 
-ROW = "number, epoch, id, lines, replies, version, state is not null"
+# SQLite 3.40 answers `state is not null` wrongly behind `returning`.
+ROW = "number, epoch, id, lines, replies, version, coalesce(length(state), -1) >= 0"
 
 # The rows that somebody at a row hasn't had: those after it, or all of the last epoch, if that row isn't in the log.
 BEHIND = f"""select {ROW} from entry where document = :document
     and number >= (select epoch from entry where document = :document order by number desc limit 1)
     and number > coalesce((select number from entry where document = :document and number = :number and id = :id), 0)
-    order by number limit {PAGE}"""
+    order by number limit :page"""
 
 # The request, if it was done. It is a write, so it waits until the row is wherever a commit has to be: a database that
 # was started again shows rows that its standby may not have.
@@ -34,6 +34,6 @@ KEPT = """select number, id, state from entry where document = :document and epo
     order by number desc limit 1"""
 
 # Rows that nobody can be asking for any more. The last epoch stays, however old it is.
-FORGET = f"""delete from entry where (document, number) in (select document, number from entry where written < :before
+FORGET = """delete from entry where (document, number) in (select document, number from entry where written < :before
     and number < (select epoch from entry as last where last.document = entry.document order by number desc limit 1)
-    limit {PAGE}) returning number"""
+    limit :page) returning number"""
