@@ -1,0 +1,121 @@
+#!/usr/bin/python3
+"""Checks the service with faults. Clients and readers work while workers, processes of `lexical` and databases are killed,
+or stopped for a while. Then each request that was answered is to be there once, in order, as it was answered. Each epoch is
+to be answered again with the same bytes, and each reader is to have what is there. The status is 1 where anything is wrong.
+
+With `--fault NAME` the service is a wrong one, and the check has to find that. It takes PostgreSQL with psycopg.
+"""
+import argparse
+import asyncio
+import os
+import pathlib
+import random
+import re
+import shutil
+import sys
+import tempfile
+import time
+from collections import Counter
+from collections.abc import Awaitable
+
+import aiohttp
+import psycopg
+
+from checking.cluster import Cluster
+from checking.faults import ALONE, FAULTS, SERVICE, copied
+from checking.harm import Harm
+from checking.proof import Row, faults
+from checking.trial import RULES, Asked, Trial, Worker
+
+COLUMNS = "document, number, id, epoch, request, lines, replies"
+SETTLE_SECONDS = 20  # for readers, at the end
+
+
+async def phase(trial: Trial, name: str, clients: int, act: Awaitable[None]) -> None:
+    """Lets clients work while something is done, and prints what they got."""
+    trial.is_over, since, begun = False, len(trial.asked), time.monotonic()
+    tasks = [asyncio.create_task(trial.client(f"c{since}-{it}")) for it in range(clients)]
+    try:
+        await act
+        seconds, trial.is_over = time.monotonic() - begun, True
+        for task in (await asyncio.wait(tasks, timeout=40))[1]:
+            trial.wrong.append(f"a request isn't answered: {task}")
+    finally:
+        for task in tasks:
+            task.cancel()
+    times = sorted(1000 * (it.answered - it.sent) for it in trial.asked[since:]) or [0.0]
+    print(f"{name}: {(len(trial.asked) - since) / seconds:,.0f} requests a second; milliseconds: median "
+          f"{times[len(times) // 2]:.0f}, 99th {times[len(times) * 99 // 100]:.0f}, most {times[-1]:.0f}", flush=True)
+
+
+async def work(trial: Trial, words: argparse.Namespace, cluster: Cluster) -> list[Row]:
+    """What happens, and the table after it."""
+    begun = [Asked(it, "begin", RULES, "0") for it in trial.documents]
+    await asyncio.wait_for(asyncio.gather(*map(trial.ask, begun)), timeout=60)
+    await phase(trial, "without faults", words.clients, asyncio.sleep(words.seconds / 8))
+    readers = [asyncio.create_task(trial.reader()) for _ in range(words.clients)]
+    onlookers = [asyncio.create_task(trial.onlooker()) for _ in range(4)]
+    try:
+        await phase(trial, "with faults", words.clients, Harm(trial, cluster).days(words.seconds))
+        with psycopg.connect(cluster.address) as connection:
+            rows = [Row(*row) for row in
+                    connection.execute(f"select {COLUMNS} from entry order by document, number, epoch".encode())]
+        last = {row.document: row.place for row in rows}
+        ends = time.monotonic() + SETTLE_SECONDS
+        while time.monotonic() < ends and any(not read or read[-1][0] != last[name] for name, read in trial.read):
+            await asyncio.sleep(0.1)
+    finally:
+        for task in readers + onlookers:
+            task.cancel()
+    return rows
+
+
+async def check(words: argparse.Namespace, folder: pathlib.Path) -> list[str]:
+    """What is wrong."""
+    cluster, options = Cluster(folder), ["--processes", "8", "--epoch", "40000", "--idle", "20"]
+    options += ["--core"] if words.program is None else ["--program", words.program]
+    answers = ["node", str(SERVICE.parent / "web/cli.mjs")] if words.program is None else [words.program]
+    async with aiohttp.ClientSession(read_bufsize=1 << 22, connector=aiohttp.TCPConnector(limit=0)) as session:
+        trial = Trial(session, [f"d{it}" for it in range(words.documents)])
+        try:
+            cluster.begin("" if words.fault == ALONE else "*")
+            trial.workers += [Worker(folder, "--database", cluster.address, *options) for _ in range(3)]
+            rows = await work(trial, words, cluster)
+        finally:
+            for worker in trial.workers:
+                worker.process.kill()
+                worker.process.wait()
+                text = worker.log.read_text(encoding="utf-8")
+                trial.counts += Counter(f"times again: {it}" for it in re.findall('"again".*"kind": "([A-Za-z]+)', text))
+                trial.wrong += [f"a worker's fault: {it[:600]}" for it in text.splitlines() if '"trace"' in it][:1]
+            cluster.stop()
+    epochs = {(row.document, row.epoch) for row in rows}
+    trial.counts.update({"requests": len(trial.asked), "rows": len(rows), "epochs": len(epochs)})
+    print(", ".join(f"{count} {what}" for what, count in sorted(trial.counts.items())), flush=True)
+    return trial.wrong + list(faults(rows, trial, answers))
+
+
+def main() -> None:
+    """Checks, and says what is wrong."""
+    parser = argparse.ArgumentParser(formatter_class=argparse.ArgumentDefaultsHelpFormatter)
+    parser.add_argument("--program", help="the proved program; without it the module by node")
+    parser.add_argument("--seconds", type=float, default=80, help="with faults; an eighth of it without")
+    parser.add_argument("--seed", type=int, help="of what happens; when it happens is for the machine to say")
+    parser.add_argument("--clients", type=int, default=8, help="and as many readers")
+    parser.add_argument("--documents", type=int, default=6, help="in all")
+    parser.add_argument("--fault", choices=FAULTS, help="by which the check has to fail")
+    words = parser.parse_args()
+    random.seed(words.seed)
+    with tempfile.TemporaryDirectory(prefix="service-") as name:
+        folder = pathlib.Path(name)
+        copied(folder, words.fault)
+        folder.chmod(0o755)
+        if os.getuid() == 0:
+            shutil.chown(folder, "postgres")
+        wrong = asyncio.run(check(words, folder))
+    print(*wrong[:20], f"{len(wrong)} wrong" if wrong else "all is right", sep="\n")
+    sys.exit(1 if wrong else 0)
+
+
+if __name__ == "__main__":
+    main()

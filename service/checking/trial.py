@@ -1,0 +1,197 @@
+"""What clients and readers do, and what they got."""
+import asyncio
+import contextlib
+import json
+import os
+import pathlib
+import random
+import socket
+import subprocess
+import sys
+import time
+from collections import Counter
+from collections.abc import Iterator
+from dataclasses import dataclass, field
+
+import aiohttp
+
+HEADERS = {"Content-Type": "application/x-ndjson"}
+RULES = b"""{"rule":{"do":[{"set":{"text":"\xc2\xa9"}}],"if":[{"text":"(c)"}],"on":"text"}}
+{"listener":{"handled":true,"on":"sign","priority":2,"steps":[{"append":"The editors"}]}}
+"""
+CARET = (b'{"update":[{"new":"paragraph","as":"p"},{"put":"p","into":0},'
+         b'{"select":{"anchor":["p",0,"element"],"focus":["p",0,"element"]}}]}\n')
+TEXTS = [b"a", b"rose ", b"\xe2\x82\xac", b"(c)"]
+COMMANDS = [("make-list", "bullet"), ("make-list", "check"), ("indent", None), ("insert-paragraph", None),
+            ("undo", None), ("redo", None), ("insert-table", [2, 2, True]), ("insert-row", "after"),
+            ("delete-word", "back"), ("sign", None), ("format-text", "bold"), ("insert-text", "a\U0001f339"),
+            ("select-all", None)]
+FAULTS = (aiohttp.ClientError, TimeoutError)
+
+
+class Worker:
+    """A worker at a port that stays."""
+
+    def __init__(self, folder: pathlib.Path, *words: str) -> None:
+        with socket.create_server(("127.0.0.1", 0)) as server:
+            self.port = server.getsockname()[1]
+        self._words = [sys.executable, "-m", "vaultsatin_service", "--port", str(self.port), *words]
+        self.log, self._folder = folder / f"worker-{self.port}.log", folder
+        self.start()
+
+    def start(self) -> None:
+        """Begins it, also anew."""
+        environment = {**os.environ, "PYTHONPATH": str(self._folder), "PYTHONDONTWRITEBYTECODE": "1"}
+        with self.log.open("ab") as log:
+            self.process = subprocess.Popen(self._words, stdout=log, stderr=log, env=environment)
+
+    def url(self, path: str) -> str:
+        """An address of it."""
+        return f"http://127.0.0.1:{self.port}/{path}"
+
+
+@dataclass
+class Asked:
+    """A request, and what it was answered."""
+
+    document: str
+    request: str
+    lines: bytes
+    seen: str
+    sent: float = field(default_factory=time.monotonic)
+    is_exact: bool = False
+    answered: float = 0
+    entry: str = ""
+    replies: bytes = b""
+
+    @property
+    def number(self) -> int:
+        """Of its row."""
+        return number_of(self.entry)
+
+
+def number_of(place: str) -> int:
+    """The number in a place."""
+    return int(place.partition(".")[0])
+
+
+@dataclass
+class Trial:
+    """All that happens between the clients and the workers."""
+
+    session: aiohttp.ClientSession
+    documents: list[str]
+    workers: list[Worker] = field(default_factory=list)
+    is_over: bool = False
+    asked: list[Asked] = field(default_factory=list)
+    read: list[tuple[str, list[tuple[str, bytes]]]] = field(default_factory=list)
+    wrong: list[str] = field(default_factory=list)
+    counts: Counter[str] = field(default_factory=Counter)
+
+    def url(self, document: str, what: str, worker: Worker | None = None) -> str:
+        """An address of a document, at any worker."""
+        return (worker or random.choice(self.workers)).url(f"documents/{document}/{what}")
+
+    async def ask(self, it: Asked, worker: Worker | None = None) -> None:
+        """Asks until there is an answer, of whichever worker. Now and then the answer isn't waited for."""
+        while not it.answered:
+            limit = random.uniform(0, 0.1) if random.random() < 0.01 else 30
+            query = {"request": it.request, "seen": it.seen, "exact": str(int(it.is_exact))}
+            try:
+                async with self.session.post(self.url(it.document, "lines", worker), params=query, data=it.lines,
+                                             headers=HEADERS, timeout=aiohttp.ClientTimeout(limit)) as response:
+                    replies = await response.read()
+                self.counts[f"answers {response.status}"] += 1
+                if response.status == 200:
+                    it.answered, it.entry, it.replies = time.monotonic(), response.headers["Entry"], replies
+                elif response.status == 409:
+                    await asyncio.sleep(random.uniform(0, 0.1))
+                    it.seen = await self.entry_of(it.document) or it.seen
+                    continue
+            except FAULTS as error:
+                self.counts[f"times {type(error).__name__}"] += 1
+            if not it.answered:
+                await asyncio.sleep(random.uniform(0, 0.1))
+        self.asked.append(it)
+
+    async def entry_of(self, document: str, worker: Worker | None = None) -> str | None:
+        """The last entry, as a worker tells it."""
+        with contextlib.suppress(*FAULTS):
+            limit = aiohttp.ClientTimeout(5)
+            async with self.session.get(self.url(document, "state", worker), timeout=limit) as response:
+                return response.headers.get("Entry")
+        return None
+
+    async def client(self, name: str) -> None:
+        """Edits one document after the other. Now and then it asks the same twice, or for a new epoch."""
+        seen: dict[str, str] = {}
+        for turn in range(1 << 30):
+            document = random.choice(self.documents)
+            for at, lines in enumerate(writing()):
+                if self.is_over:
+                    return
+                it = Asked(document, f"{name}-{turn}-{at}", lines, seen.get(document) or "0")
+                it.is_exact = random.random() < 0.1
+                await self.ask(it)
+                seen[document] = it.entry
+                if random.random() < 0.02:
+                    again = Asked(document, it.request, lines, it.seen, it.sent)
+                    await self.ask(again)
+                    if (again.entry, again.replies) != (it.entry, it.replies):
+                        self.wrong.append(f"{document} {it.request} is answered in two ways")
+                    self.asked.remove(again)
+            if random.random() < 0.15:
+                with contextlib.suppress(*FAULTS):
+                    async with self.session.put(self.url(document, "epoch"), params={"seen": seen[document]}):
+                        self.counts["epochs asked for"] += 1
+
+    async def reader(self) -> None:
+        """Follows a document, and comes again when it is cut off."""
+        document, entries = random.choice(self.documents), list[tuple[str, bytes]]()
+        self.read.append((document, entries))
+        last = "0"
+        while True:
+            with contextlib.suppress(*FAULTS):
+                headers = {"Last-Event-ID": last}
+                url = self.url(document, "events")
+                async with self.session.get(url, headers=headers, timeout=aiohttp.ClientTimeout(None)) as response:
+                    last = await self._follow(response, document, entries, last)
+            last = entries[-1][0] if entries else "0"
+            self.counts["times a reader was cut off"] += 1
+            await asyncio.sleep(0.1)
+
+    async def _follow(self, response: aiohttp.ClientResponse, document: str, entries: list[tuple[str, bytes]],
+                      last: str) -> str:
+        name, data = "0", b""
+        async for line in response.content:
+            if line.startswith(b"id: "):
+                name, data = line[4:].strip().decode(), b""
+            elif line == b"event: begin\n":
+                entries.clear()
+            elif line.startswith(b"data: "):
+                data += line[6:]
+            elif line == b"\n":
+                if entries and number_of(name) != number_of(entries[-1][0]) + 1:
+                    self.wrong.append(f"{document}: a reader got {name} after {entries[-1][0]}")
+                entries.append((name, data))
+                last = name
+        return last
+
+    async def onlooker(self) -> None:
+        """Asks for what is there, so that workers come to know of rows that they haven't made."""
+        while True:
+            with contextlib.suppress(*FAULTS):
+                url = self.url(random.choice(self.documents), "html")
+                async with self.session.get(url, timeout=aiohttp.ClientTimeout(2)) as response:
+                    await response.read()
+            await asyncio.sleep(0.1)
+
+
+def writing() -> Iterator[bytes]:
+    """Requests of somebody who writes a paragraph, and does something with it."""
+    yield CARET
+    for _ in range(random.randint(3, 12)):
+        yield b'{"dispatch":"insert-text","payload":"%b"}\n' % random.choice(TEXTS)
+    for _ in range(random.randint(1, 4)):
+        yield b"".join(json.dumps({"dispatch": name, "payload": payload}).encode() + b"\n"
+                       for name, payload in random.sample(COMMANDS, random.randint(1, 4)))
