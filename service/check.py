@@ -28,6 +28,7 @@ from checking.proof import Row, faults
 from checking.trial import RULES, Asked, Trial, Worker
 
 COLUMNS = "document, number, id, epoch, request, lines, replies"
+PROGRAM, STAND_IN = SERVICE.parent / "crates/lexical/out/lexical", SERVICE / "checking/stand_in.py"
 SETTLE_SECONDS = 20  # for readers, at the end
 
 
@@ -73,8 +74,8 @@ async def work(trial: Trial, words: argparse.Namespace, cluster: Cluster) -> lis
 async def check(words: argparse.Namespace, folder: pathlib.Path) -> list[str]:
     """What is wrong."""
     cluster, options = Cluster(folder), ["--processes", "8", "--epoch", "40000", "--idle", "20"]
-    options += ["--core"] if words.program is None else ["--program", words.program]
-    answers = ["node", str(SERVICE.parent / "web/cli.mjs")] if words.program is None else [words.program]
+    options += ["--core"] if words.core else ["--program", str(words.program.resolve())]
+    answers = ["node", str(SERVICE.parent / "web/cli.mjs")] if words.core else [str(words.program.resolve())]
     async with aiohttp.ClientSession(read_bufsize=1 << 22, connector=aiohttp.TCPConnector(limit=0)) as session:
         trial = Trial(session, [f"d{it}" for it in range(words.documents)])
         try:
@@ -98,7 +99,9 @@ async def check(words: argparse.Namespace, folder: pathlib.Path) -> list[str]:
 def main() -> None:
     """Checks, and says what is wrong."""
     parser = argparse.ArgumentParser(formatter_class=argparse.ArgumentDefaultsHelpFormatter)
-    parser.add_argument("--program", help="the proved program; without it the module by node")
+    parser.add_argument("--program", type=pathlib.Path, default=PROGRAM if PROGRAM.exists() else STAND_IN,
+                        help="the proved program, or what stands in for it")
+    parser.add_argument("--core", action="store_true", help="the module by node, which takes long to begin")
     parser.add_argument("--seconds", type=float, default=80, help="with faults; an eighth of it without")
     parser.add_argument("--seed", type=int, help="of what happens; when it happens is for the machine to say")
     parser.add_argument("--clients", type=int, default=8, help="and as many readers")

@@ -44,6 +44,12 @@ export class Session {
    */
   do(lines: Line | readonly Line[], selected?: Selection | null): Promise<Reply[]>;
 
+  /**
+   * Says that somebody else may have selected something else in the core, where several edit one document. What is
+   * selected, if it is given, is sent with the next act in any case.
+   */
+  forget(): void;
+
   /** Waits until no act does. */
   idle(): Promise<void>;
 

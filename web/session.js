@@ -48,6 +48,11 @@ export class Session {
     return this.#waiting > 0;
   }
 
+  /** Somebody else may have selected something: what comes with the next act is sent in any case. */
+  forget() {
+    this.#selected.forget();
+  }
+
   /** Waits until no act does. */
   async idle() {
     while (this.isBusy) await this.#acts;

@@ -1,0 +1,137 @@
+#!/usr/bin/env python3
+"""Two people in one document, each in headless Chromium: what one types the other sees, also where both type at once.
+
+It takes Chromium with its driver, and Python's selenium; `service/test` runs it where they are there.
+"""
+import json
+import pathlib
+import signal
+import subprocess
+import sys
+import tempfile
+import threading
+import time
+from collections.abc import Callable
+
+SERVICE = pathlib.Path(__file__).resolve().parents[1]
+sys.path.insert(0, str(SERVICE.parent / "web/test/page"))
+
+from browser import Page, Results  # type: ignore[import]  # pylint: disable=wrong-import-position
+
+SECONDS = 30.0  # until something has to be seen
+HOLD = """
+const [held] = arguments, sent = window.fetch;
+window.fetch = async (...words) => {
+  if (held) await new Promise(resolve => { window.release = resolve; });
+  return sent(...words);
+};
+"""
+
+
+def begun(folder: str) -> tuple["subprocess.Popen[bytes]", str]:
+    """A worker, and its address."""
+    worker = subprocess.Popen([str(SERVICE / "run"), "--core", "--port", "0", "--file", f"{folder}/log.sqlite"],
+                              stdout=subprocess.DEVNULL, stderr=subprocess.PIPE)
+    assert worker.stderr
+    for line in worker.stderr:
+        told = json.loads(line)
+        if told["event"] == "listening":
+            threading.Thread(target=worker.stderr.read, daemon=True).start()
+            return worker, told["address"]
+    raise RuntimeError("the worker has ended")
+
+
+def seen(what: Callable[[], object], expected: object) -> list[str]:
+    """What is wrong, if something isn't as expected in time."""
+    ends = time.monotonic() + SECONDS
+    while (found := what()) != expected:
+        if time.monotonic() > ends:
+            return [f"there is     {found}", f"there should be {expected}"]
+        time.sleep(0.05)
+    return []
+
+
+def both(*acts: Callable[[], None]) -> None:
+    """Does things at once."""
+    threads = [threading.Thread(target=act) for act in acts]
+    for thread in threads:
+        thread.start()
+    for thread in threads:
+        thread.join()
+
+
+def work(ann: Page, ben: Page, results: Results) -> None:
+    """What the two do."""
+    ann.type("Hello")
+    results.add("what one types the other sees", seen(ben.text, ["Hello"]))
+    ben.caret("Hello")
+    ben.type(" world")
+    results.add("and the other way round", seen(ann.text, ["Hello world"]))
+    ann.select("Hello", 0, "Hello", 0)
+    ben.caret("world")
+    both(lambda: ann.type("abcde", 0.05), lambda: ben.type("vwxyz", 0.05))
+    for name, page in (("one", ann), ("the other", ben)):
+        results.add(f"both typed at once in one text: {name}", seen(page.text, ["abcdeHello worldvwxyz"]))
+    ben.keys(["enter", "!"])
+    results.add("a new paragraph", seen(ann.text, ["abcdeHello worldvwxyz", "!"]))
+    ann.press("control+z")
+    results.add("undo undoes what was done last, by whomever", seen(ben.text, ["abcdeHello worldvwxyz", ""]))
+    mapped(ann, ben, results)
+    refused(ann, ben, results)
+
+
+def mapped(ann: Page, ben: Page, results: Results) -> None:
+    """A letter is held back, and what comes between moves its place."""
+    ann.caret("world")
+    ann.driver.execute_script(HOLD, True)
+    ann.type("1")
+    time.sleep(0.5)
+    ben.select("abcde", 0, "abcde", 5)
+    ben.press("delete")
+    results.add("a text goes before the place", seen(ann.text, ["Hello worldvwxyz", ""]))
+    ann.driver.execute_script("const go = release; (%s)(false); go()" % f"(...arguments) => {{ {HOLD} }}")
+    time.sleep(0.5)
+    ann.driver.execute_script("window.release?.()")
+    results.add("the letter is where it was meant", seen(ben.text, ["Hello world1vwxyz", ""]))
+
+
+def refused(ann: Page, ben: Page, results: Results) -> None:
+    """A letter is held back, and its place goes."""
+    ann.reload() if hasattr(ann, "reload") else ann.open()
+    results.add("a page that comes later has all", seen(ann.text, ["Hello world1vwxyz", ""]))
+    ann.notices()
+    ann.select("world", 2, "world", 2)
+    ann.driver.execute_script(HOLD, True)
+    ann.type("2")
+    time.sleep(0.5)
+    ben.select("Hello", 3, "world", 5)
+    ben.press("delete")
+    results.add("the place goes", seen(ann.text, ["Hel1vwxyz", ""]))
+    ann.driver.execute_script("window.release?.()")
+    results.add("the letter is refused, and that is said",
+                seen(lambda: any("Somebody else" in notice for notice in ann.notices()), True))
+    results.add("nothing of it is done", seen(ben.text, ["Hel1vwxyz", ""]))
+
+
+def main() -> int:
+    """The status."""
+    results = Results()
+    with tempfile.TemporaryDirectory(prefix="service-") as folder:
+        worker, address = begun(folder)
+        pages = []
+        try:
+            place = f"{address}/page/shared.html?document=two"
+            pages = [Page(place), Page(place)]
+            work(*pages, results)
+            for page in pages:
+                results.add("no error is in the console", [it for it in page.messages() if "409" not in it and "404" not in it])
+        finally:
+            for page in pages:
+                page.close()
+            worker.send_signal(signal.SIGTERM)
+            worker.wait(30)
+    return int(results.end())
+
+
+if __name__ == "__main__":
+    sys.exit(main())

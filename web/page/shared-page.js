@@ -1,0 +1,175 @@
+// A document that several people edit: as page.js, but the core is in the service. So acts take a while, and what others
+// do comes between them.
+import { View } from '../dom.js';
+import { selectionIn, show } from '../selection.js';
+import { Session, explain } from '../session.js';
+import { meantBy } from './commands.js';
+import { guardComposing } from './composing.js';
+import { showDirections } from './directions.js';
+import { listenToInput } from './input.js';
+import { placesOf } from './ranges.js';
+import { startLines } from './rules.js';
+import { Service, overtaken } from './service.js';
+
+/** @typedef {import('../lines.js').Line} Line */
+/** @typedef {import('../lines.js').Selection} Selection */
+/** @typedef {import('../replies.js').Reply} Reply */
+
+const OVERTAKEN = 'Somebody else has changed this place meanwhile: that wasn’t done.';
+
+/** What the page's tools ask for, as `Page` of page.js has it. */
+export class SharedPage {
+  view;
+  /** @type {import('../replies.js').ReplySelection} */
+  selection = null;
+  /** What can be undone isn't told: it may be anyone's. */
+  history = { undo: 1, redo: 1 };
+  /** @type {Map<string, Set<Function>>} */
+  #listeners = new Map();
+  #service;
+  #session;
+  #turn = Promise.resolve();
+  #waiting = 0;
+  #seen = 'null';
+
+  /**
+   * @param {Element} element
+   * @param {string} place of the document at the service
+   * @param {() => void} [anew] what is done where the service begins the document anew
+   */
+  constructor(element, place, anew = () => location.reload()) {
+    this.view = new View(element);
+    Object.assign(this.view.element, { contentEditable: 'true', role: 'textbox', ariaMultiLine: 'true' });
+    this.view.element.ariaLabel = 'Document';
+    this.#service = new Service(place, { onEntry: replies => this.#takeOthers(replies), onAnew: anew });
+    this.#session = new Session(this.#service, { onReply: reply => this.#learn(reply) });
+  }
+
+  /** Draws what there is, and lets one type. */
+  async open() {
+    await this.#service.open(startLines(0));
+    guardComposing(this);
+    listenToInput(this);
+    this.view.element.ownerDocument.addEventListener('selectionchange', () => this.#look());
+  }
+
+  /** What the browser has selected in the document, as a step `select` takes it. */
+  get selected() {
+    const browser = this.view.element.ownerDocument.getSelection();
+    return browser === null ? null : selectionIn(this.view, browser);
+  }
+
+  get isBusy() {
+    return this.#waiting > 0;
+  }
+
+  /**
+   * Has lines answered in their turn, behind what is selected, as `Page.act`.
+   * @param {Line | readonly Line[]} lines
+   * @param {Selection} [selected]
+   * @returns {Promise<Reply[]>}
+   */
+  async act(lines, selected = this.#newlySelected()) {
+    this.#waiting += 1;
+    const followed = this.#service.follow(selected);
+    const done = this.#turn.then(() => this.#perform([lines].flat(), followed));
+    this.#turn = done.then(() => {}, () => {});
+    try {
+      return await done;
+    } catch (error) {
+      this.notify(error.message);
+      return [];
+    } finally {
+      this.#service.leave(followed);
+      this.#waiting -= 1;
+      if (!this.isBusy) this.#settle();
+    }
+  }
+
+  /** @param {string} name @param {Function} listener */
+  on(name, listener) {
+    const listeners = this.#listeners.get(name) ?? new Set();
+    this.#listeners.set(name, listeners.add(listener));
+    return () => { listeners.delete(listener); };
+  }
+
+  /** @param {string} text a sentence for the reader */
+  notify(text) {
+    this.#emit('notice', text);
+  }
+
+  focus() {
+    this.view.element.focus({ preventScroll: true });
+  }
+
+  /** While acts wait, the browser still shows what was selected before them: that isn't selected again. */
+  #newlySelected() {
+    const selected = this.selected, seen = JSON.stringify(selected);
+    const isOld = this.isBusy && seen === this.#seen;
+    this.#seen = seen;
+    return isOld ? null : selected;
+  }
+
+  async #perform(lines, followed) {
+    const replies = [];
+    for (const [index, line] of lines.entries()) {
+      const reply = followed.isLost ? overtaken : await this.#do(line, index === 0 ? followed.value : null);
+      replies.push(reply);
+      if (!reply.refused) continue;
+      this.notify(reply.refused.cause === overtaken.refused.cause ? OVERTAKEN : explain(reply.refused));
+      break;
+    }
+    return replies;
+  }
+
+  async #do(line, selected, isRepeated = false) {
+    const { hosts } = this.view, format = this.selection?.format ?? 0;
+    const { lines, selection, isToRepeat } = meantBy(hosts, line, selected ?? placesOf(this.selection), format);
+    const replies = lines.length > 0 || selection ? await this.#session.do(lines, selection) : [];
+    const reply = replies.find(({ refused }) => refused) ?? replies.at(-1) ?? { idle: true };
+    return isToRepeat && !isRepeated && !reply.refused ? this.#do(line, null, true) : reply;
+  }
+
+  /** What others did: all that is meant for this document moves along with it. */
+  #takeOthers(replies) {
+    const own = this.#service.follow(this.selection), shown = this.#service.follow(this.selected);
+    for (const reply of replies) if (reply.ops) this.#draw(reply.ops, true);
+    for (const followed of [own, shown]) this.#service.leave(followed);
+    this.selection = own.isLost ? null : own.value;
+    this.#session.forget();
+    if (!shown.isLost && shown.value) show(this.view, { kind: 'range', format: 0, ...shown.value });
+    if (!this.isBusy) this.#look();
+  }
+
+  #learn(reply) {
+    if (reply.ops) this.#draw(reply.ops, false);
+    if (reply.selection !== undefined) this.selection = reply.selection;
+    this.#emit('told', { reply });
+  }
+
+  #draw(ops, isOthers) {
+    this.#emit('changing');
+    if (isOthers) this.#service.moveAlong(this.view.hosts, ops);
+    this.view.apply(ops);
+    showDirections(this.view, ops);
+    this.#emit('changed');
+  }
+
+  #settle() {
+    show(this.view, this.selection);
+    this.#seen = JSON.stringify(this.selected);
+    this.#emit('settled');
+  }
+
+  #look() {
+    if (this.isBusy) return;
+    const seen = JSON.stringify(this.selected);
+    if (seen === this.#seen) return;
+    this.#seen = seen;
+    this.#emit('settled');
+  }
+
+  #emit(name, ...details) {
+    for (const listener of this.#listeners.get(name) ?? []) listener(...details);
+  }
+}

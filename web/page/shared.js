@@ -1,0 +1,19 @@
+// Starts the page of a document at the service: `?document=NAME` says which.
+import { keepInSight } from './in-sight.js';
+import { notices } from './notices.js';
+import { SharedPage } from './shared-page.js';
+import { tableToolbar } from './table-toolbar.js';
+import { toolbar } from './toolbar.js';
+
+const part = name => document.getElementById(name);
+const name = new URLSearchParams(location.search).get('document') ?? 'plan';
+
+document.title = `${name} - Vaultsatin`;
+const page = new SharedPage(part('page'), `/documents/${encodeURIComponent(name)}`);
+notices(page, part('notices'));
+await page.open();
+toolbar(page, part('bar'));
+tableToolbar(page, part('bar'));
+keepInSight(page);
+page.focus();
+window.page = page; // for a look from the console
