@@ -24,20 +24,20 @@ FAULTS: dict[str, tuple[str, str, str]] = {
     "reader-unseen": ("statements.py", "and number = :number and id = :id), 0)", "and number = :number), 0)"),
     ALONE: ("", "", ""),
 }
-SHORTER = {  # so that pauses pass them
+LIMITS = {  # shorter ones, so that pauses pass them
     "PIECE_SECONDS = 10.0": "PIECE_SECONDS = 4.0",
     "REQUEST_SECONDS = 30.0": "REQUEST_SECONDS = 12.0",
-    "QUIET_SECONDS = 5.0": "QUIET_SECONDS = 2.0",
+    "QUIET_SECONDS = 5.0": "QUIET_SECONDS = 30.0",  # a state that can't be kept ends the process, which hides a fault
 }
 
 
 def copied(folder: pathlib.Path, fault: str | None) -> None:
-    """Copies the service to a folder, with shorter limits, and the fault."""
+    """Copies the service to a folder, with other limits, and the fault."""
     package = folder / "vaultsatin_service"
     shutil.copytree(SERVICE / "vaultsatin_service", package, ignore=shutil.ignore_patterns("__pycache__"))
     program = package / "program.py"  # the copy still finds the program
     _change(program, "pathlib.Path(__file__).resolve().parents[2]", f"pathlib.Path({str(SERVICE.parent)!r})")
-    for before, after in SHORTER.items():
+    for before, after in LIMITS.items():
         _change(package / "limits.py", before, after)
     name, before, after = FAULTS[fault] if fault else ("", "", "")
     if name:

@@ -1,6 +1,7 @@
 // A document that several people edit: as page.js, but the core is in the service. So acts take a while, and what others
 // do comes between them.
 import { View } from '../dom.js';
+import { edgeOf } from '../hosts-order.js';
 import { selectionIn, show } from '../selection.js';
 import { Session, explain } from '../session.js';
 import { meantBy } from './commands.js';
@@ -100,6 +101,8 @@ export class SharedPage {
 
   focus() {
     this.view.element.focus({ preventScroll: true });
+    const start = edgeOf(this.view.hosts.root, true);
+    show(this.view, { kind: 'range', anchor: start, focus: start, format: 0 });
   }
 
   /** While acts wait, the browser still shows what was selected before them: that isn't selected again. */
@@ -133,18 +136,30 @@ export class SharedPage {
   /** What others did: all that is meant for this document moves along with it. */
   #takeOthers(replies) {
     const own = this.#service.follow(this.selection), shown = this.#service.follow(this.selected);
-    for (const reply of replies) if (reply.ops) this.#draw(reply.ops, true);
-    for (const followed of [own, shown]) this.#service.leave(followed);
-    this.selection = own.isLost ? null : own.value;
-    this.#session.forget();
-    if (!shown.isLost && shown.value) show(this.view, { kind: 'range', format: 0, ...shown.value });
-    if (!this.isBusy) this.#look();
+    this.#redraw(() => {
+      for (const reply of replies) if (reply.ops) this.#draw(reply.ops, true);
+      for (const followed of [own, shown]) this.#service.leave(followed);
+      this.selection = own.isLost ? null : own.value;
+      this.#session.forget();
+    }, () => (shown.isLost || !shown.value ? null : { kind: 'range', format: 0, ...shown.value }));
+    this.#look();
   }
 
   #learn(reply) {
-    if (reply.ops) this.#draw(reply.ops, false);
-    if (reply.selection !== undefined) this.selection = reply.selection;
+    this.#redraw(() => {
+      if (reply.ops) this.#draw(reply.ops, false);
+      if (reply.selection !== undefined) this.selection = reply.selection;
+    }, () => this.selection);
     this.#emit('told', { reply });
+  }
+
+  /** Draws, and shows what is selected then. While acts wait, that isn't taken for what the reader has selected. */
+  #redraw(draw, selection) {
+    const isOld = JSON.stringify(this.selected) === this.#seen;
+    draw();
+    const shown = selection();
+    if (shown && (isOld || !this.isBusy)) show(this.view, shown);
+    if (isOld) this.#seen = JSON.stringify(this.selected);
   }
 
   #draw(ops, isOthers) {
