@@ -73,7 +73,7 @@ async def work(trial: Trial, words: argparse.Namespace, cluster: Cluster) -> lis
 
 async def check(words: argparse.Namespace, folder: pathlib.Path) -> list[str]:
     """What is wrong."""
-    cluster, options = Cluster(folder), ["--processes", "12", "--epoch", "40000", "--idle", "20"]
+    cluster, options = Cluster(folder), ["--processes", "12", "--epoch", "40000", "--idle", "600"]
     options += ["--core"] if words.core else ["--program", str(words.program.resolve())]
     answers = ["node", str(SERVICE.parent / "web/cli.mjs")] if words.core else [str(words.program.resolve())]
     async with aiohttp.ClientSession(read_bufsize=1 << 22, connector=aiohttp.TCPConnector(limit=0)) as session:

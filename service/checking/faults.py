@@ -27,7 +27,7 @@ FAULTS: dict[str, tuple[str, str, str]] = {
 LIMITS = {  # shorter ones, so that pauses pass them
     "PIECE_SECONDS = 10.0": "PIECE_SECONDS = 4.0",
     "REQUEST_SECONDS = 30.0": "REQUEST_SECONDS = 12.0",
-    "QUIET_SECONDS = 5.0": "QUIET_SECONDS = 30.0",  # a state that can't be kept ends the process, which hides a fault
+    "QUIET_SECONDS = 5.0": "QUIET_SECONDS = 600.0",  # a state that can't be kept ends the process, which hides a fault
 }
 
 

@@ -40,10 +40,10 @@ class Worker:
         self.start()
 
     def start(self) -> None:
-        """Begins it, also anew."""
+        """Begins it, also anew. Its folder is the current one, of which Python takes the service."""
         environment = {**os.environ, "PYTHONPATH": str(self._folder), "PYTHONDONTWRITEBYTECODE": "1"}
         with self.log.open("ab") as log:
-            self.process = subprocess.Popen(self._words, stdout=log, stderr=log, env=environment)
+            self.process = subprocess.Popen(self._words, stdout=log, stderr=log, env=environment, cwd=self._folder)
 
     def url(self, path: str) -> str:
         """An address of it."""
