@@ -12,6 +12,7 @@ import pathlib
 import random
 import re
 import shutil
+import signal
 import sys
 import tempfile
 import time
@@ -109,6 +110,7 @@ def main() -> None:
     parser.add_argument("--fault", choices=FAULTS, help="by which the check has to fail")
     words = parser.parse_args()
     random.seed(words.seed)
+    signal.signal(signal.SIGTERM, lambda *_: sys.exit(143))  # so that what was begun is ended
     with tempfile.TemporaryDirectory(prefix="service-") as name:
         folder = pathlib.Path(name)
         copied(folder, words.fault)

@@ -12,7 +12,7 @@ from .cluster import Cluster, children, send
 from .trial import CARET, HEADERS, RULES, Asked, Trial, Worker
 
 WITNESSES = [f"witness-{number}" for number in range(3)]
-AWAY_SECONDS = 1.5
+AWAY_SECONDS = 3.0
 
 
 class Harm:

@@ -72,14 +72,24 @@ def asked(request: str, lines: bytes = HELLO, seen: Place = START, is_exact: boo
 class Database:
     """PostgreSQL in a folder, reached by a socket in it alone."""
 
-    def __init__(self, folder: pathlib.Path) -> None:
+    def __init__(self, folder: pathlib.Path, is_safe: bool = False) -> None:
         self.folder, self.data = folder, folder / "data"
         self.address = f"host={folder} port=5433 user=service dbname=postgres"
         if os.getuid() == 0:
             shutil.chown(folder, "postgres")
         self._run("initdb", "-D", self.data, "-A", "trust", "-U", "service", "--no-sync")
         self._run("pg_ctl", "-D", self.data, "-l", folder / "log", "-w",
-                  "-o", f"-k {folder} -p 5433 -h '' -c fsync=off", "start")
+                  "-o", f"-k {folder} -p 5433 -h '' -c fsync={'on' if is_safe else 'off'}", "start")
+
+    @property
+    def pid(self) -> int:
+        """Of the process that begins all others."""
+        return int((self.data / "postmaster.pid").read_text(encoding="ascii").split()[0])
+
+    def ask(self, statement: str) -> str:
+        """What `psql` answers."""
+        words = ["psql", "-qtAX", self.address, "-c", statement]
+        return subprocess.run(words, check=True, cwd="/", capture_output=True, text=True).stdout.strip()
 
     def stop(self) -> None:
         """Ends it."""

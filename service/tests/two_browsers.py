@@ -1,10 +1,11 @@
 #!/usr/bin/env python3
 """Two people in one document, each in headless Chromium: what one types the other sees, also where both type at once.
 
-It takes Chromium with its driver, and Python's selenium; `service/test` runs it where they are there.
+It takes Chromium with its driver, and Python's selenium. Without them the status is 2.
 """
 import json
 import pathlib
+import shutil
 import signal
 import subprocess
 import sys
@@ -16,7 +17,14 @@ from collections.abc import Callable
 SERVICE = pathlib.Path(__file__).resolve().parents[1]
 sys.path.insert(0, str(SERVICE.parent / "web/test/page"))
 
-from browser import Page, Results  # type: ignore[import]  # pylint: disable=wrong-import-position
+try:
+    from browser import Page, Results  # type: ignore[import]
+except ImportError:
+    print("two browsers: there is no selenium")
+    sys.exit(2)
+if not (shutil.which("chromium") and shutil.which("chromedriver")):
+    print("two browsers: there is no chromium, or no chromedriver")
+    sys.exit(2)
 
 SECONDS = 30.0  # until something has to be seen
 HOLD = """
@@ -31,7 +39,8 @@ class SharedPage(Page):  # type: ignore[misc]
 
     def messages(self) -> list[str]:
         """Errors in the console."""
-        return [it for it in super().messages() if "status of 404" not in it and "status of 409" not in it]
+        errors: list[str] = super().messages()
+        return [it for it in errors if "status of 404" not in it and "status of 409" not in it]
 
     def rest(self) -> None:
         """Waits until all that was done is answered and drawn."""
@@ -63,7 +72,7 @@ def seen(what: Callable[[], object], expected: object) -> list[str]:
     return []
 
 
-def both(*acts: Callable[[], None]) -> None:
+def both(*acts: Callable[[], object]) -> None:
     """Does things at once."""
     threads = [threading.Thread(target=act) for act in acts]
     for thread in threads:
@@ -128,11 +137,11 @@ def main() -> int:
     results = Results()
     with tempfile.TemporaryDirectory(prefix="service-") as folder:
         worker, address = begun(folder)
-        pages = []
+        pages: list[SharedPage] = []
         try:
             place = f"{address}/page/shared.html?document=two"
-            pages = [SharedPage(place), SharedPage(place)]
-            work(*pages, results)
+            pages += [SharedPage(place), SharedPage(place)]
+            work(pages[0], pages[1], results)
             for page in pages:
                 results.add("no error is in the console", page.messages())
         finally:
