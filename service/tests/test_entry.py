@@ -33,5 +33,9 @@ class Entries(unittest.TestCase):
         found = registering(b"\n".join(lines) + b"\n", b"\n".join(replies) + b"\n")
         self.assertEqual(found.split(b"\n")[:-1], [lines[0], lines[3], lines[4]])
 
+    def test_long_numbers_are_no_fault(self) -> None:
+        line = b'{"listener":%b}' % (b"1" * 5000)
+        self.assertEqual(registering(line + b"\n", b'{"registered":1}\n'), line + b"\n")
+
     def test_line_that_is_no_object_registers_nothing(self) -> None:
         self.assertEqual(registering(b'"rule"\n', b'{"refused":{"cause":"BadCommand"}}\n'), b"")

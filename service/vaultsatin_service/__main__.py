@@ -7,6 +7,7 @@ import sys
 from aiohttp import web
 
 from .application import Worker, program_of
+from .errors import Away
 from .logging_lines import log_to_stderr
 from .words import words_of
 
@@ -33,8 +34,11 @@ def main() -> None:
         program = program_of(words)
     except OSError as error:
         sys.exit(f"there is no program: {error}. The option --core runs the module by node.")
-    web.run_app(Worker(words, program).application(), sock=listening(words.host, words.port),
-                shutdown_timeout=SHUTDOWN_SECONDS, access_log=None, print=lambda *_: None)
+    try:
+        web.run_app(Worker(words, program).application(), sock=listening(words.host, words.port),
+                    shutdown_timeout=SHUTDOWN_SECONDS, access_log=None, print=lambda *_: None)
+    except Away as error:
+        sys.exit(f"the log can't be opened: {error}. Another worker may have the file {words.file}.")
 
 
 if __name__ == "__main__":

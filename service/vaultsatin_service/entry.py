@@ -60,8 +60,8 @@ class Entry(NamedTuple):
 
 
 def registering(lines: bytes, replies: bytes) -> bytes:
-    """Those of the lines that registered a rule or a listener."""
+    """Those of the lines that registered a rule or a listener. Numbers aren't read: Python refuses long ones."""
     pairs = zip(lines.split(b"\n"), replies.split(b"\n")[:-1])
     return b"".join(line + b"\n" for line, reply in pairs
                     if REGISTERS.search(line) and not reply.startswith(b'{"refused"')
-                    and {"rule", "listener"} & json.loads(line).keys())
+                    and {"rule", "listener"} & json.loads(line, parse_int=len).keys())

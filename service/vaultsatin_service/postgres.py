@@ -1,4 +1,5 @@
 """The log in PostgreSQL, for any number of workers on any machines."""
+import contextlib
 import re
 from collections.abc import Sequence
 from typing import Any
@@ -37,12 +38,13 @@ class Postgres:
     async def open(self) -> None:
         """Makes the table if it isn't there, where this user may."""
         await self._pool.open()
-        try:
-            if not (await self.ask("select to_regclass('entry') is not null"))[0][0]:
-                async with self._pool.connection() as connection:
-                    await connection.execute(SCHEMA.encode())
-        except (Away, Behind, psycopg.Error):
-            pass  # it isn't there yet, or another worker makes the table: requests will say so
+        with contextlib.suppress(Away, Behind):  # it isn't there yet: the first request makes the table
+            await self.ask("select 1 from entry limit 1")
+
+    async def _make(self) -> None:
+        with contextlib.suppress(psycopg.Error):  # as where another worker makes it at the same time
+            async with self._pool.connection() as connection:
+                await connection.execute(SCHEMA.encode())
 
     async def close(self) -> None:
         """Ends the connections."""
@@ -58,6 +60,9 @@ class Postgres:
             async with self._pool.connection() as connection:
                 return await (await connection.execute(query, values, binary=True)).fetchall()
         except AWAY as error:
+            raise Away(str(error)) from error
+        except psycopg.errors.UndefinedTable as error:
+            await self._make()
             raise Away(str(error)) from error
         except psycopg.errors.UniqueViolation as error:
             raise Behind(str(error)) from error

@@ -58,6 +58,14 @@ test('what is selected is sent where it differs from what the core has', async (
   assert.equal(editor.line({ show: 'state' }).state.root.children[0].children[1].text, 'abHecdllo');
 });
 
+test('after another has selected something, what comes with an act is sent in any case', async () => {
+  const { session, sent } = opened();
+  await session.do(typed('a'), caret(2, 0));
+  session.forget();
+  await session.do(typed('b'), caret(2, 1));
+  assert.equal(sent.map(wordOf).join(' '), 'select a selection select b selection');
+});
+
 test('the selection of a page that lags behind is not selected again', async () => {
   const { editor, session } = opened();
   await session.do(typed('a'), caret(2, 0));
