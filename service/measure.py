@@ -15,9 +15,13 @@ import subprocess
 import sys
 import tempfile
 import time
+import uuid
 from collections.abc import Iterator
 
+import psycopg
+
 from tests.support import Database
+from vaultsatin_service.program import module_by_node
 
 HERE = pathlib.Path(__file__).resolve().parent
 TEXT = "People write paragraphs of about this length, and then go back to change a letter."
@@ -152,14 +156,20 @@ def throughput(workers: list[Worker], seen: dict[str, str], database: int, secon
            f"the worker {memory(workers[0].process.pid):.0f} MB")
 
 
+def filled(database: Database, name: str, count: int, answers: list[str]) -> None:
+    """A document of so many rows, as it would be if each had been asked for."""
+    lines = [BEGIN] + [TYPE.replace("LETTER", chr(97 + number % 26)) + "\n" for number in range(1, count)]
+    told = subprocess.run(answers, input="".join(lines), stdout=subprocess.PIPE, text=True, check=True).stdout
+    with psycopg.connect(database.address) as connection, connection.cursor() as cursor:
+        with cursor.copy("copy entry (document, number, id, epoch, request, lines, replies, written) from stdin") as copy:
+            for number, (line, reply) in enumerate(zip(lines, told.splitlines(keepends=True)), 1):
+                copy.write_row((name, number, uuid.uuid4().hex, 1, f"r{number}", line.encode(), reply.encode(), 0))
+
+
 def opening(worker: Worker, counts: list[int]) -> Iterator[str]:
     """How long a document takes to open that has so many rows, and how long a reader takes to join."""
     for count in counts:
         name = f"log{count}"
-        seen = worker.begin(name)
-        for number in range(1, count):
-            line = TYPE.replace("LETTER", chr(97 + number % 26))
-            seen = worker.ask("POST", f"/documents/{name}/lines?seen={seen}&request=r{number}", line)[0]
         for kind in ("", ", behind an epoch's end"):
             worker.stop()
             worker.start()
@@ -217,7 +227,10 @@ def measured(words: argparse.Namespace, workers: list[Worker], database: Databas
     seen = {f"d{it}": workers[0].begin(f"d{it}") for it in range(words.documents)}
     for line in throughput(workers, seen, database.pid, words.seconds):
         print(line, flush=True)
-    for line in opening(workers[0], [int(it) for it in words.rows.split(",")]):
+    counts = [int(it) for it in words.rows.split(",")]
+    for count in counts:
+        filled(database, f"log{count}", count, [words.program] if words.program else module_by_node().words)
+    for line in opening(workers[0], counts):
         print(line, flush=True)
     database.ask(f"""insert into entry (document, number, id, epoch, request, lines, replies, version, written)
         select 'm' || it, number, id, 1, request, lines, replies, version, written

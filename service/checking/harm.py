@@ -12,7 +12,8 @@ from .cluster import Cluster, children, send
 from .trial import CARET, HEADERS, RULES, Asked, Trial, Worker
 
 WITNESSES = [f"witness-{number}" for number in range(3)]
-AWAY_SECONDS = 3.0
+AWAY_SECONDS = 3.0  # in which a row is made that waits for the standby
+LOOK_SECONDS = 15.0  # in which it is seen, once its database has begun again
 
 
 class Harm:
@@ -116,7 +117,8 @@ class Harm:
 
     async def _lost_entry(self, name: str, before: str, worker: Worker) -> str | None:
         """The row that is there, and that the standby doesn't have, as the worker does it."""
-        for _ in range(20):
+        ends = time.monotonic() + LOOK_SECONDS
+        while time.monotonic() < ends:
             entry = await self._trial.entry_of(name, worker)
             if entry and entry != before:
                 return entry

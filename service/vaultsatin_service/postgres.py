@@ -15,6 +15,7 @@ CONNECTION: dict[str, Any] = {
     "autocommit": True, "connect_timeout": 3, "keepalives_idle": 5, "keepalives_interval": 2, "keepalives_count": 3,
     "tcp_user_timeout": 10000}
 POOL_SECONDS = 5  # until a connection is free
+TRY_SECONDS = 2  # in which a lost connection is tried again by itself; after that each request tries
 AWAY = (psycopg.OperationalError, psycopg.errors.ReadOnlySqlTransaction)
 TELL = "select pg_notify('entry', name) from unnest(:names::text[]) as name"
 LASTS = """select name, last.id from unnest(:names::text[]) as name
@@ -32,7 +33,7 @@ class Postgres:
     def __init__(self, address: str) -> None:
         self.address = address
         self._pool = AsyncConnectionPool(address, kwargs=CONNECTION, min_size=2, max_size=16, timeout=POOL_SECONDS,
-                                         open=False)
+                                         reconnect_timeout=TRY_SECONDS, open=False)
         self._written: dict[str, bytes] = {}
 
     async def open(self) -> None:
