@@ -14,7 +14,7 @@ class Following(InFolder):
 
     async def asyncSetUp(self) -> None:
         await super().asyncSetUp()
-        self.readers = Readers(self.log, look_seconds=0.2)
+        self.readers = Readers(self.log, look_seconds=3.0)
         self.log.told = self.readers.told
         tasks = [asyncio.create_task(it) for it in (self.readers.tell(), self.readers.listen())]
         for task in tasks:
@@ -36,7 +36,7 @@ class Following(InFolder):
         waiting = asyncio.create_task(self.next(follow))
         await asyncio.sleep(0.05)
         second = await self.add(first.place, 1, "b")
-        async with asyncio.timeout(0.15):  # woken, rather than by itself
+        async with asyncio.timeout(2.5):  # woken, rather than by itself
             got = await waiting
             while got is None:
                 got = await anext(follow)
