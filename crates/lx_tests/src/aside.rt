@@ -1,6 +1,9 @@
 //! Calls that no line reaches: cells that are selected by their keys, a commit that is noted where nobody told what strayed,
 //! and all listeners of a name in one order.
 
+ghost use Rattle.std.specs.Prelude.{◌≤◌, IfOk};
+ghost use Rattle.lx_step.specs.Sound.{IsSoundListener};
+
 use crate::drafts::{begun, filled, place};
 use lx_bus::Bus;
 use lx_draft::{Draft, Frozen, State};
@@ -63,6 +66,7 @@ fn a_commit_is_noted(rt: HostRuntime) -> Result<(), Fail> {
 /// A listener of a name, which does nothing.
 fn listener(alloc: Global, on: &str, priority: u8) -> Result<Listener, NoMemory>
     requires { priority ≤ 4 }
+    ensures { IfOk result IsSoundListener }
 {
     Ok(Listener {
         priority,
