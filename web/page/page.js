@@ -28,8 +28,6 @@ export class Page {
    * @type {ReplySelection}
    */
   selection;
-  /** How many entries the history has. */
-  history = { undo: 0, redo: 0 };
   /**
    * The lines by which the document came to be as it was opened, for whoever keeps a log.
    * @type {Line[]}
@@ -38,6 +36,8 @@ export class Page {
   /** @type {Map<string, Set<Function>>} */
   #listeners = new Map();
   #milliseconds = new WeakMap();
+  /** How many entries the history has, if that was asked since the last act. */
+  #history = null;
   #session;
   #turn = Promise.resolve();
   #waiting = 0;
@@ -66,7 +66,6 @@ export class Page {
     this.view.element.ariaLabel = 'Document';
     showDirections(this.view);
     this.selection = editor.line({ show: 'selection' }).selection;
-    this.history = editor.line({ show: 'history' }).history;
     this.#session = new Session(carrierOf({ line: line => this.#answer(line) }), {
       now,
       onReply: (reply, line) => this.#learn(reply, line),
@@ -85,6 +84,11 @@ export class Page {
     if (browser === null) return null;
     const places = placesIn(browser), isAsShown = places.every((place, index) => place === this.#shown[index]);
     return isAsShown && browser.anchorNode ? placesOf(this.selection) : selectionIn(this.view, browser);
+  }
+
+  /** How many entries the history has. It is asked for when somebody wants to know, rather than at each key. */
+  get history() {
+    return this.#history ??= this.editor.line({ show: 'history' }).history;
   }
 
   /** Whether an act waits or is under way. */
@@ -215,7 +219,7 @@ export class Page {
     const isHere = browser?.anchorNode && this.view.hostAround(browser.anchorNode) !== null;
     this.#shown = isHere && this.selection ? placesIn(browser) : [];
     this.#seen = JSON.stringify(this.selected);
-    this.history = this.editor.line({ show: 'history' }).history;
+    this.#history = null;
     this.#emit('settled');
   }
 
