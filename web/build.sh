@@ -9,33 +9,7 @@
 set -euo pipefail
 top=$(cd "$(dirname "$(readlink -f "${BASH_SOURCE[0]}")")/.." && pwd)
 crate=lx_live
-made_by=(web/build.sh web/build/module.py web/build/retarget.py web/build/heap.c web/build/exports.c)
-
-# The crate and those below it, in the order of crates.txt.
-crates_in_all() {
-    awk -F: -v first="$crate" '
-        { sub(/#.*/, "") }
-        NF > 1 { split($1, head, " "); below[head[1]] = $2; order[++all] = head[1] }
-        function visit(name, names, count, at) {
-            if (!(name in below) || seen[name]++) return
-            count = split(below[name], names, " ")
-            for (at = 1; at <= count; at++) visit(names[at])
-        }
-        END { visit(first); for (at = 1; at <= all; at++) if (order[at] in seen) print order[at] }' "$top/crates.txt"
-}
-
-# A folder with these crates alone, in which rt ci leaves their libraries.
-copy_crates() {
-    local name
-    cp "$top/HANDLES" "$1"
-    for name in $(crates_in_all); do
-        mkdir -p "$1/crates/$name"
-        for part in src specs proofs; do
-            [ ! -d "$top/crates/$name/$part" ] || cp -r "$top/crates/$name/$part" "$1/crates/$name/"
-        done
-        grep -E "^$name( |:)" "$top/crates.txt" >> "$1/crates.txt"
-    done
-}
+made_by=(web/build.sh tools/copy-crates web/build/module.py web/build/retarget.py web/build/heap.c web/build/exports.c)
 
 # Runs a command whose words are shown only where it fails.
 quietly() {
@@ -64,7 +38,7 @@ tell_origin() {
     cd "$top"
     printf '{\n  "commit": "%s",\n  "kit": "%s",\n  "binaryen": "%s",\n' \
         "$(git rev-parse HEAD)" "$(rt version)" "$(wasm-opt --version)"
-    printf '  "crates": {%s\n  },\n' "$(members sum_of_crate $(crates_in_all))"
+    printf '  "crates": {%s\n  },\n' "$(members sum_of_crate $(cut -d: -f1 "$work/copy/crates.txt" | cut -d' ' -f1))"
     printf '  "made by": {%s\n  },\n' "$(members sum_of "${made_by[@]}")"
     printf '  "LLVM module": "%s",\n' "$(sum_of "$work/module.bc")"
     printf '  "lexical.wasm": "%s"\n}\n' "$(sum_of "$work/lexical.wasm")"
@@ -79,8 +53,7 @@ if [ "${1:-}" != --check ] && [ -n "$(cd "$top" && git status --porcelain -- cra
 fi
 work=$(mktemp -d)
 trap 'rm -rf "$work"' EXIT
-mkdir "$work/copy"
-copy_crates "$work/copy"
+"$top/tools/copy-crates" "$crate" "$work/copy"
 kit=$(dirname "$(rt doc)")
 (cd "$work/copy" && quietly rt ci)
 quietly python3 "$top/web/build/module.py" "$kit" "$work/copy/crates/$crate" "$work/module.bc"
