@@ -5,6 +5,7 @@ import { cellAt } from './cells.js';
 import { bringInSight } from './in-sight.js';
 import { enter, type } from './markdown-typing.js';
 import { blockAt, isRange, linesIn } from './ranges.js';
+import { isModHeld, isPressed } from './shortcuts.js';
 
 /** @typedef {import('./page.js').Page} Page */
 
@@ -40,10 +41,10 @@ const commands = {
 
 /** Browsers have no event of their own for these: their own list of what can be undone stays empty here. */
 const keys = {
-  'Mod+a': command('select-all'),
-  'Mod+z': command('undo'),
-  'Mod+y': command('redo'),
-  'Mod+Shift+z': command('redo'),
+  'Mod+A': command('select-all'),
+  'Mod+Z': command('undo'),
+  'Mod+Y': command('redo'),
+  'Mod+Shift+Z': command('redo'),
 };
 
 /** @param {Page} page */
@@ -57,18 +58,15 @@ export function listenToInput(page) {
   });
   element.addEventListener('keydown', event => {
     if (event.isComposing || event.defaultPrevented || event.altKey) return;
-    const isMod = event.ctrlKey || event.metaKey;
     const isToLeave = isTabFree && event.key === 'Tab';
     if (event.key !== 'Shift') isTabFree = event.key === 'Escape';
-    if (isMod && isToEnd(event) !== null) {
+    if (isModHeld(event) && isToEnd(event) !== null) {
       event.preventDefault();
       page.act(atEnd(page, isToEnd(event), event.shiftKey)).then(() => bringInSight(page));
       return;
     }
-    const held = (isMod ? 'Mod+' : '') + (event.shiftKey ? 'Shift+' : '');
-    const line = event.key === 'Tab' && !isMod && !isToLeave
-      ? tabbed(page, event.shiftKey)
-      : keys[held + event.key.toLowerCase()];
+    const isTab = event.key === 'Tab' && !event.ctrlKey && !event.metaKey && !isToLeave;
+    const line = isTab ? tabbed(page, event.shiftKey) : keys[Object.keys(keys).find(each => isPressed(event, each))];
     if (!line) return;
     event.preventDefault();
     page.act(line);

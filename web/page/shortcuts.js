@@ -24,14 +24,33 @@ export function spoken(keys) {
 }
 
 /**
+ * Whether Mod is held. On Apple's machines Control and a letter are other commands, such as to the start of a line.
+ * @param {KeyboardEvent} event
+ */
+export function isModHeld({ ctrlKey, metaKey }) {
+  return isApple ? metaKey && !ctrlKey : ctrlKey && !metaKey;
+}
+
+/**
  * Whether an event is that of the keys. Digits are found by their place, since with Shift each layout has other signs.
  * @param {KeyboardEvent} event
  * @param {string} keys
  */
 export function isPressed(event, keys) {
   const held = keys.split('+'), last = held.pop();
-  const isMod = isApple ? event.metaKey && !event.ctrlKey : event.ctrlKey && !event.metaKey;
-  if (isMod !== held.includes('Mod') || event.shiftKey !== held.includes('Shift')) return false;
+  if (isModHeld(event) !== held.includes('Mod') || event.shiftKey !== held.includes('Shift')) return false;
   if (event.altKey !== held.includes('Alt') || event.getModifierState('AltGraph')) return false;
-  return /^\d$/.test(last) ? event.code === `Digit${last}` : event.key.toLowerCase() === last.toLowerCase();
+  return /^\d$/.test(last) ? event.code === `Digit${last}` : nameOf(event) === last.toLowerCase();
+}
+
+/** Signs in the names of keys, by the keys' places. */
+const signs = { BracketLeft: '[', BracketRight: ']', Backslash: '\\', Comma: ',', Period: '.' };
+
+/**
+ * What a key is called. Those of Cyrillic, Greek or other letters are called as on a Latin layout, by their places.
+ * @param {KeyboardEvent} event
+ */
+function nameOf({ key, code }) {
+  if (key.length > 1 || key <= '~') return key.toLowerCase();
+  return signs[code] ?? /^Key([A-Z])$/.exec(code)?.[1].toLowerCase() ?? key.toLowerCase();
 }
