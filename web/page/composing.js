@@ -1,13 +1,24 @@
 // Composition, and all else that changes the page without leave. What an accent or a Chinese word is made of is drawn
 // by the browser; at its end all of that is taken back, and what has come of it is typed. Any other change that isn't
 // the page's own, such as one of an extension, is taken back at once.
+import { caretAt, isCaret, isRange } from './ranges.js';
+import { targetOf } from './targets.js';
 
-/** @param {import('./page.js').Page} page */
+/** @typedef {import('./page.js').Page} Page */
+/** @typedef {import('../lines.js').Selection} Selection */
+/**
+ * A composition: what its text replaces, and where that begins in the page. Keyboards of phones compose words anew that
+ * are there already: then that is a word around the caret.
+ * @typedef {{ selected: Selection, isWord: boolean, start: { node: Node, offset: number } | null }} Composition
+ */
+
+/** @param {Page} page */
 export function guardComposing(page) {
   const { element } = page.view;
   /** @type {MutationRecord[]} what others have changed, and isn't taken back yet */
   let changes = [];
-  let composing = null; // what was selected as the composition began
+  /** @type {Composition | null} */
+  let composing = null;
 
   const observer = new MutationObserver(records => {
     changes.push(...records);
@@ -38,13 +49,56 @@ export function guardComposing(page) {
   page.on('changed', () => { observer.takeRecords(); }); // these changes are the page's
 
   element.addEventListener('compositionstart', () => {
-    composing = { selected: page.selected };
+    composing = { selected: page.selected, isWord: false, start: null };
+  });
+  element.addEventListener('beforeinput', event => {
+    if (composing && event.inputType === 'insertCompositionText') composing = goingOn(page, event, composing);
   });
   element.addEventListener('compositionend', event => {
-    const selected = composing?.selected ?? null;
+    const ended = composing, behind = ended && behindCaret(page, ended, event.data);
     composing = null;
     changes.push(...observer.takeRecords());
-    takeBack();
-    page.act(event.data ? { dispatch: 'insert-text', payload: event.data } : [], selected);
+    // A keyboard of a phone also begins one at each word that is touched, and ends it without a change.
+    if (takeBack() && ended) typeComposed(page, ended, event.data, behind);
   });
+}
+
+/**
+ * A composition once the browser has said where its text goes. What it replaces is told the first time.
+ * @param {Page} page
+ * @param {InputEvent} event
+ * @param {Composition} composing
+ * @returns {Composition}
+ */
+function goingOn(page, event, { selected, isWord, start }) {
+  const [range] = event.getTargetRanges();
+  const target = start === null ? targetOf(page, event) : null;
+  const isOther = isRange(target) && !isCaret(target) && isCaret(selected);
+  return {
+    selected: isOther ? target : selected,
+    isWord: isWord || isOther,
+    start: range ? { node: range.startContainer, offset: range.startOffset } : start,
+  };
+}
+
+/** How many characters of a composed text are behind the caret. */
+function behindCaret(page, { start }, text) {
+  const { focusNode, focusOffset } = page.view.element.ownerDocument.getSelection();
+  if (start === null || focusNode !== start.node || focusOffset < start.offset) return 0;
+  return Math.max(0, start.offset + text.length - focusOffset);
+}
+
+/**
+ * Types what was composed. A composition that comes to nothing leaves what was selected, but takes the word away that
+ * it was made of.
+ */
+async function typeComposed(page, { selected, isWord }, text, behind) {
+  if (text === '') {
+    page.act(isWord ? { dispatch: 'remove-text' } : [], selected);
+    return;
+  }
+  await page.act({ dispatch: 'insert-text', payload: text }, selected);
+  if (behind === 0 || !isCaret(page.selection)) return;
+  const [key, offset] = page.selection.anchor;
+  await page.act({ update: [{ select: caretAt([key, offset - behind, 'text']) }] }, null);
 }

@@ -1,11 +1,12 @@
 // What a person does with keys, the mouse, and the browser's own commands, as acts.
 import { edgeOf } from '../hosts-order.js';
-import { selectionIn } from '../selection.js';
 import { cellAt } from './cells.js';
+import { insert } from './clipboard.js';
 import { bringInSight } from './in-sight.js';
 import { enter, type } from './markdown-typing.js';
-import { blockAt, isRange, linesIn } from './ranges.js';
+import { blockAt, isCaret, isRange, linesIn } from './ranges.js';
 import { isModHeld, isPressed } from './shortcuts.js';
+import { targetOf } from './targets.js';
 
 /** @typedef {import('./page.js').Page} Page */
 
@@ -80,23 +81,18 @@ export function listenToInput(page) {
 /** @param {InputEvent} event */
 function input(page, event) {
   const { inputType } = event, text = event.data ?? event.dataTransfer?.getData('text/plain') ?? '';
-  if (inputType === 'insertText') return type(page, text);
+  const target = targetOf(page, event), selected = target ?? page.selected;
+  // Where there is a caret, and a word is meant, a keyboard corrects what was typed before.
+  const isCorrection = target !== null && !isCaret(target) && isCaret(page.selected);
+  if (inputType.startsWith('insert') && /[\r\n]/.test(text)) return insert(page, { text }, selected);
+  if (inputType === 'insertText' && !isCorrection) return type(page, text);
   if (inputType === 'insertParagraph') return enter(page);
+  if (inputType === 'insertLink' && text !== '') return page.act(command('link', text));
   if (commands[inputType]) return page.act(commands[inputType]);
   // A word of the spelling checker, or all to the end of a line on the screen: the browser says what is meant.
-  const selected = targetOf(page, event) ?? page.selected;
   if (inputType.startsWith('delete')) return page.act(command('remove-text'), selected);
   if (inputType.startsWith('insert') && text !== '') return page.act(command('insert-text', text), selected);
   return page.notify('This can’t be done here.');
-}
-
-function targetOf(page, event) {
-  const [range] = event.getTargetRanges();
-  if (!range) return null;
-  const { startContainer, startOffset, endContainer, endOffset } = range;
-  return selectionIn(page.view, {
-    anchorNode: startContainer, anchorOffset: startOffset, focusNode: endContainer, focusOffset: endOffset,
-  });
 }
 
 /** In items, and where several lines are selected, Tab moves a level; in a table to the next cell; else it is typed. */
