@@ -3,6 +3,7 @@ import { Hosts } from '../hosts.js';
 import { isBefore } from '../hosts-order.js';
 import { mapPoint, selectionIn } from '../selection.js';
 import { contentOf, insert, put } from './clipboard.js';
+import { placeUnder } from './places.js';
 import { caretAt, inOrder, isRange } from './ranges.js';
 
 /** @typedef {import('./page.js').Page} Page */
@@ -26,7 +27,7 @@ export function drop(page, files) {
   element.addEventListener('drop', event => {
     if (hasFiles(event)) return;
     event.preventDefault();
-    const at = placeUnder(page, event);
+    const at = caretUnder(page, event);
     const content = at && contentOf(page, event.dataTransfer);
     if (!content) return;
     const source = event.ctrlKey || event.altKey ? null : dragged;
@@ -69,13 +70,8 @@ function hasFiles({ dataTransfer }) {
  * @param {DragEvent} event
  * @returns {{ anchor: ReplyPoint, focus: ReplyPoint } | null}
  */
-function placeUnder({ view }, { clientX, clientY }) {
-  const { ownerDocument } = view.element;
-  // Browsers have one of the two: the second is older.
-  const position = ownerDocument.caretPositionFromPoint?.(clientX, clientY);
-  const range = position ? null : ownerDocument.caretRangeFromPoint?.(clientX, clientY);
-  const node = position?.offsetNode ?? range?.startContainer ?? null;
-  const offset = position?.offset ?? range?.startOffset ?? 0;
+function caretUnder({ view }, { clientX, clientY }) {
+  const [node, offset] = placeUnder(view, clientX, clientY) ?? [null, 0];
   const places = { anchorNode: node, anchorOffset: offset, focusNode: node, focusOffset: offset };
   return /** @type {any} */ (selectionIn(view, places));
 }

@@ -1,9 +1,10 @@
-// What a person does with keys, the mouse, and the browser's own commands, as acts.
+// What a person does with keys, and with the browser's own commands, as acts.
 import { edgeOf } from '../hosts-order.js';
 import { cellAt } from './cells.js';
 import { insert } from './clipboard.js';
 import { bringInSight } from './in-sight.js';
 import { enter, type } from './markdown-typing.js';
+import { listenToMouse } from './mouse.js';
 import { blockAt, isCaret, isRange, linesIn } from './ranges.js';
 import { isModHeld, isPressed } from './shortcuts.js';
 import { targetOf } from './targets.js';
@@ -51,6 +52,7 @@ const keys = {
 /** @param {Page} page */
 export function listenToInput(page) {
   const { element } = page.view;
+  listenToMouse(page);
   let isTabFree = false; // Escape lets the next Tab leave the document, for those who have no mouse
   element.addEventListener('beforeinput', event => {
     if (event.isComposing || event.inputType.includes('Composition')) return; // see composing.js
@@ -72,10 +74,6 @@ export function listenToInput(page) {
     event.preventDefault();
     page.act(line);
   });
-  element.addEventListener('mousedown', event => {
-    if (itemOfMark(page, event)) event.preventDefault(); // the caret stays where it is
-  });
-  element.addEventListener('click', event => clicked(page, event));
 }
 
 /** @param {InputEvent} event */
@@ -115,21 +113,4 @@ function atEnd({ selected, view: { hosts } }, isEnd, isExtending) {
   const focus = edgeOf(hosts.root, !isEnd);
   const anchor = isExtending && isRange(selected) ? selected.anchor : focus;
   return { update: [{ select: { anchor, focus } }] };
-}
-
-/** The item whose check mark is clicked, or null: the mark stands beside the item. */
-function itemOfMark(page, { target, offsetX }) {
-  if (target.role !== 'checkbox' || (offsetX >= 0 && offsetX < target.clientWidth)) return null;
-  return page.view.hostAround(target);
-}
-
-function clicked(page, event) {
-  const link = event.target.closest('a'), item = itemOfMark(page, event);
-  if (link) {
-    event.preventDefault();
-    if (link.href && (event.ctrlKey || event.metaKey)) window.open(link.href, '_blank', 'noopener');
-  } else if (item) {
-    const checked = item.attributes.get('aria-checked') !== 'true';
-    page.act({ update: [{ set: item.key, fields: { checked } }] }, null);
-  }
 }
