@@ -42,7 +42,7 @@ function scrollToCaret(page) {
 
 /**
  * The place of the end of a selection that moves. In an empty block it has none of its own: then that is the line's.
- * @param {Selection} selection
+ * @param {{ focusNode: Node, focusOffset: number }} selection
  * @returns {DOMRect}
  */
 export function placeOfCaret({ focusNode, focusOffset }) {

@@ -1,7 +1,9 @@
 // What a person does with keys, and with the browser's own commands, as acts.
 import { edgeOf } from '../hosts-order.js';
+import { listenToArrows } from './arrows.js';
 import { cellAt } from './cells.js';
 import { insert } from './clipboard.js';
+import { leaveGaps } from './gaps.js';
 import { bringInSight } from './in-sight.js';
 import { enter, type } from './markdown-typing.js';
 import { listenToMouse } from './mouse.js';
@@ -52,6 +54,8 @@ const keys = {
 /** @param {Page} page */
 export function listenToInput(page) {
   const { element } = page.view;
+  leaveGaps(page);
+  listenToArrows(page);
   listenToMouse(page);
   let isTabFree = false; // Escape lets the next Tab leave the document, for those who have no mouse
   element.addEventListener('beforeinput', event => {

@@ -1,0 +1,144 @@
+// Up and Down where a browser goes astray. From cell to cell it follows the order of the document, so that Up would go
+// to the cell before; and it stops beside tables and rules, where nothing can be typed.
+import { cellOf, edgeOf, indexOf, isCell } from '../hosts-order.js';
+import { placeOf } from '../selection.js';
+import { areasOf, tableOf } from './cells.js';
+import { bringInSight, placeOfCaret } from './in-sight.js';
+import { placeUnder } from './places.js';
+import { blockAt, isRange } from './ranges.js';
+
+/** @typedef {import('./page.js').Page} Page */
+/** @typedef {import('../hosts.js').Host} Host */
+/** @typedef {import('../lines.js').Selection} Selection */
+
+/** @type {Record<string, boolean>} */
+const downward = { ArrowUp: false, ArrowDown: true };
+
+/** @param {Page} page */
+export function listenToArrows(page) {
+  const { element } = page.view;
+  /** @type {number | null} where in its line the caret was as the first of several keys was pressed */
+  let column = null;
+  element.addEventListener('keydown', event => {
+    const isDown = downward[event.key], isHeld = event.ctrlKey || event.metaKey || event.altKey;
+    if (isDown === undefined || isHeld || event.isComposing || event.defaultPrevented) {
+      if (event.key !== 'Shift') column = null;
+      return;
+    }
+    const browser = element.ownerDocument.getSelection();
+    if (!browser || browser.focusNode === null) return;
+    column ??= placeOfCaret(browser).left;
+    if (!(event.shiftKey ? extend(page, isDown) : move(page, isDown, column))) return;
+    event.preventDefault();
+    bringInSight(page);
+  });
+  element.addEventListener('mousedown', () => { column = null; });
+}
+
+/** With Shift a caret in a cell selects this and the next one; more keys select more. Whether that is done. */
+function extend(page, isDown) {
+  const { selected, view: { hosts } } = page;
+  if (!selected || selected.keys) return false;
+  const isOfCells = selected.table !== undefined;
+  const [anchor, focus] = [selected.anchor, selected.focus].map(end => cellOf(hosts.ofKey(isOfCells ? end : end[0])));
+  if (focus === null || tableOf(anchor) !== tableOf(focus)) return false;
+  if (!isOfCells && !isOnLastLine(page, isDown)) return false;
+  const next = cellBeyond(focus, isDown);
+  if (next === null) return isOfCells;
+  const cells = { anchor: anchor.key, focus: next.key, table: tableOf(focus).key };
+  page.act({ update: [{ select: cells }] }, null);
+  return true;
+}
+
+/** Moves the caret if the way goes over the edge of a cell, into a table or over a rule: whether it does. */
+function move(page, isDown, column) {
+  const { selected, view } = page;
+  const block = isRange(selected) ? blockAt(view.hosts, selected.focus) : null;
+  if (block === null || !isOnLastLine(page, isDown)) return false;
+  const target = targetBeyond(view, block, isDown, column), browser = view.element.ownerDocument.getSelection();
+  if (target === null || browser === null) return false;
+  const place = placeIn(view, target, isDown, column);
+  if (place) browser.collapse(...place);
+  return place !== null;
+}
+
+/** Whether the caret is on the last line of its block, or on the first on the way up. */
+function isOnLastLine({ selected, view }, isDown) {
+  const block = blockAt(view.hosts, selected.focus);
+  if (block === null) return false;
+  const inside = view.element.ownerDocument.createRange();
+  inside.selectNodeContents(view.elementOf(block));
+  const lines = Array.from(inside.getClientRects()).filter(({ height }) => height > 0);
+  const caret = placeOfCaret(view.element.ownerDocument.getSelection()), middle = (caret.top + caret.bottom) / 2;
+  return lines.every(({ top, bottom }) => isDown ? top < middle : bottom > middle);
+}
+
+/**
+ * The block or cell that the way up or down from a block leads to, or null where the browser finds it.
+ * @param {import('../dom.js').View} view
+ * @param {Host} block
+ * @param {boolean} isDown
+ * @param {number} column
+ * @returns {Host | null}
+ */
+function targetBeyond(view, block, isDown, column) {
+  let isAstray = false;
+  for (let at = block; ;) {
+    const next = siblingBeyond(at, isDown), cell = cellOf(at);
+    if (next === null && cell === null) return null;
+    if (next === null) {
+      const other = cellBeyond(cell, isDown);
+      if (other !== null) return other;
+      at = tableOf(cell);
+    } else if (next.tag === 'table') {
+      return cellOfEdge(view, next, isDown, column);
+    } else if (next.tag === 'hr') {
+      at = next;
+    } else {
+      return isAstray ? next : null;
+    }
+    isAstray = true;
+  }
+}
+
+/** What is behind a host, or before it, in its cell or in the document: also behind the lists that it ends. */
+function siblingBeyond(host, isDown) {
+  for (let at = host; at.parent !== null && !isCell(at); at = at.parent) {
+    const sibling = at.parent.children[indexOf(at) + (isDown ? 1 : -1)];
+    if (sibling) return sibling;
+  }
+  return null;
+}
+
+/** The cell below another one, or above it, or null. */
+function cellBeyond(cell, isDown) {
+  const areas = areasOf(tableOf(cell)), from = areas.find(area => area.cell === cell);
+  const row = isDown ? from.bottom + 1 : from.top - 1;
+  const found = areas.find(({ top, bottom, left, right }) => (
+    top <= row && row <= bottom && left <= from.left && from.left <= right
+  ));
+  return found?.cell ?? null;
+}
+
+/** The cell of a table's first row, or its last one, that is nearest to a column of the window. */
+function cellOfEdge(view, table, isDown, column) {
+  const areas = areasOf(table), row = isDown ? 0 : table.children.length - 1;
+  const distance = ({ cell }) => {
+    const { left, right } = view.elementOf(cell).getBoundingClientRect();
+    return Math.max(left - column, column - right, 0);
+  };
+  const cells = areas.filter(({ top, bottom }) => top <= row && row <= bottom);
+  return cells.reduce((nearest, each) => distance(each) < distance(nearest) ? each : nearest).cell;
+}
+
+/** The place on the first line of a host, or on its last on the way up, that is nearest to a column of the window. */
+function placeIn(view, host, isDown, column) {
+  const edge = placeOf(view, edgeOf(host, isDown, true));
+  if (edge === null) return null;
+  const [focusNode, focusOffset] = edge, element = view.elementOf(host);
+  const block = blockAt(view.hosts, edgeOf(host, isDown, true)) ?? host;
+  view.elementOf(block).scrollIntoView({ block: 'nearest', behavior: 'instant' });
+  const line = placeOfCaret({ focusNode, focusOffset }), { left, right } = element.getBoundingClientRect();
+  const place = placeUnder(view, Math.max(left + 1, Math.min(column, right - 1)), (line.top + line.bottom) / 2);
+  return place && element.contains(place[0]) ? place : edge;
+}
