@@ -3,6 +3,7 @@
 // gives back the marks as they were typed.
 import { edgeOf, indexOf } from '../hosts-order.js';
 import { formatBits, formatOf } from './formats.js';
+import { addressBefore, linkAddress, linkInMarks } from './link-typing.js';
 import { blockAt, caretAt, isCaret } from './ranges.js';
 
 /** @typedef {import('./page.js').Page} Page */
@@ -77,8 +78,11 @@ function markBefore({ view: { hosts }, selected }) {
  */
 export async function type(page, text) {
   const found = text === ' ' ? markBefore(page) : null;
+  const address = text === ' ' ? addressBefore(page) : null;
   await page.act({ dispatch: 'insert-text', payload: text });
   if (text === '*' || text === '`' || text === '~') return format(page);
+  if (text === ')') return linkInMarks(page);
+  if (address) return linkAddress(page, address);
   if (found === null) return;
   const { key, mark, steps } = found, typed = mark + text;
   if (!page.view.hosts.ofKey(key)?.text?.startsWith(typed)) return; // the space has another format than the mark
@@ -114,14 +118,17 @@ async function format(page) {
 }
 
 /**
- * Enter: three hyphens that are all of a paragraph become a rule, anything else is a new paragraph.
+ * Enter: three hyphens that are all of a paragraph become a rule, anything else is a new paragraph. An address before
+ * the caret becomes a link.
  * @param {Page} page
  */
 export async function enter(page) {
   const { view: { hosts }, selected } = page;
   const block = isCaret(selected) ? blockAt(hosts, selected.anchor) : null;
   const isRule = block?.tag === 'p' && block.children.length === 1 && block.children[0].text === '---';
+  const address = addressBefore(page);
   await page.act({ dispatch: 'insert-paragraph' });
+  if (address) return linkAddress(page, address);
   if (!isRule || hosts.ofKey(block.key) !== block) return;
   const whole = { anchor: edgeOf(block, true), focus: edgeOf(block, false) };
   const back = page.selection?.kind === 'range' ? { anchor: page.selection.anchor, focus: page.selection.focus } : null;

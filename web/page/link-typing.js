@@ -1,0 +1,90 @@
+// Links as they are typed: an address becomes one at the space or the break behind it, and so does `[words](address)`.
+// As with other marks, one undo gives back what was typed.
+import { addressMeant } from './addresses.js';
+import { formatBits, formatOf } from './formats.js';
+import { linkOf } from './link-lines.js';
+import { isCaret } from './ranges.js';
+
+/** @typedef {import('./page.js').Page} Page */
+/** @typedef {import('../lines.js').Step} Step */
+/** @typedef {{ key: number, from: number, text: string, url: string }} Address a part of a text, and its address */
+
+/** An address of the web or of a mailbox, which no letter is before; what ends a sentence isn't of it. */
+const typedAddress = /(?<![^\s([{"'“„«])((?:https?:\/\/|www\.)[^\s<>"]+|[\w.+-]+@[\w-]+(?:\.[\w-]+)+)$/iu;
+const endOfSentence = /[.,;:!?'"”’»\]}]+$/u;
+
+/** Words in square brackets, and behind them an address in round ones. */
+const marked = /\[([^[\]]+)\]\(([^\s()]+)\)$/u;
+
+/**
+ * The address right before the caret, if it may become a link; null otherwise.
+ * @param {Page} page
+ * @returns {Address | null}
+ */
+export function addressBefore(page) {
+  const before = textBefore(page);
+  const found = before && typedAddress.exec(before.text);
+  if (!found) return null;
+  const whole = found[1].replace(endOfSentence, '');
+  const text = whole.endsWith(')') && !whole.includes('(') ? whole.slice(0, -1) : whole;
+  const url = addressMeant(text);
+  return url ? { key: before.key, from: found.index, text, url } : null;
+}
+
+/**
+ * The text before the caret, where that may become a link, and the key of its host.
+ * @param {Page} page
+ */
+function textBefore({ view: { hosts }, selected }) {
+  if (!isCaret(selected)) return null;
+  const [key, offset] = selected.anchor, host = hosts.ofKey(key);
+  if (!host?.text || linkOf(host) !== null || formatOf(host) & formatBits.code) return null;
+  return { key, text: host.text.slice(0, offset) };
+}
+
+/**
+ * Makes a link of an address, if it is still there. The caret stays where it is.
+ * @param {Page} page
+ * @param {Address} address
+ */
+export async function linkAddress(page, { key, from, text, url }) {
+  const host = page.view.hosts.ofKey(key);
+  if (host?.text?.startsWith(text, from) !== true) return;
+  await page.act({ tags: ['history-push'], update: linked(host, from, text.length, url) }, null);
+}
+
+/**
+ * Makes a link of words and an address in brackets before the caret; what is typed next isn't of it.
+ * @param {Page} page
+ */
+export async function linkInMarks(page) {
+  const before = textBefore(page), found = before && marked.exec(before.text);
+  const url = found && addressMeant(found[2]);
+  if (!url) return;
+  const { key, text: { length } } = before, { index, 1: words } = found, host = page.view.hosts.ofKey(key);
+  const removed = (/** @type {number} */ from, /** @type {number} */ to) => [
+    { select: { anchor: [key, from, 'text'], focus: [key, to, 'text'] } }, { dispatch: 'remove-text' },
+  ];
+  const left = { key, text: host.text.slice(0, index) + words + host.text.slice(length) };
+  const steps = [...removed(index + 1 + words.length, length), ...removed(index, index + 1)];
+  const end = { select: { anchor: [key, index + words.length, 'text'], focus: [key, index + words.length, 'text'] } };
+  await page.act({ tags: ['history-push'], update: [...steps, end, ...linked(left, index, words.length, url)] }, null);
+}
+
+/**
+ * The steps that make a link of a part of a text.
+ * @param {{ key: number, text: string | null }} host
+ * @param {number} from
+ * @param {number} length
+ * @param {string} url
+ * @returns {Step[]}
+ */
+function linked({ key, text }, from, length, url) {
+  const at = [from, from + length].filter(offset => offset > 0 && offset < text.length);
+  const part = from > 0 ? 'words' : key;
+  return [
+    ...(at.length > 0 ? [{ split: key, at, as: 'words' }] : []),
+    { new: 'link', fields: { url }, as: 'link' },
+    { wrap: part, in: 'link' },
+  ];
+}
