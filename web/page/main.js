@@ -2,7 +2,7 @@
 import { clipboard } from './clipboard.js';
 import { drop } from './drop.js';
 import { files } from './files.js';
-import { keepInSight } from './in-sight.js';
+import { bringInSight, keepInSight } from './in-sight.js';
 import { inspector } from './inspector.js';
 import { moduleHere } from './module.js';
 import { layOutNear } from './near-caret.js';
@@ -10,6 +10,7 @@ import { notices } from './notices.js';
 import { Page } from './page.js';
 import { storage } from './storage.js';
 import { tableToolbar } from './table-toolbar.js';
+import { showTitle } from './titles.js';
 import { toolbar } from './toolbar.js';
 
 const part = name => document.getElementById(name);
@@ -26,5 +27,7 @@ clipboard(page);
 drop(page, opened);
 inspector(page, part('core'));
 kept.keep(page);
+showTitle(page);
 page.focus();
+bringInSight(page);
 window.page = page; // for a look from the console

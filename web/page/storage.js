@@ -122,6 +122,10 @@ class Kept {
       this.#timer ??= setTimeout(() => this.#write(page), this.#isFull ? LONG_PAUSE : PAUSE);
     });
     setInterval(() => this.#hold(), HOLD);
+    for (const name of ['visibilitychange', 'pagehide']) {
+      // The caret may have moved since the last act. The promises of this one are kept before the next listener.
+      addEventListener(name, () => { page.act({ update: [] }); });
+    }
     addEventListener('visibilitychange', () => {
       if (document.visibilityState === 'visible') return forgetTab();
       this.#write(page); // it may be the last moment: browsers drop tabs in the background without a word
@@ -142,11 +146,16 @@ class Kept {
     }
   }
 
+  /** Whether there is a log already, which this tab may add to: then where the caret is belongs to it. */
+  get #isToGoOn() {
+    return this.#log.size > 0 && this.#log.isOurs;
+  }
+
   /** @param {Page} page */
   #write(page) {
     if (this.#timer !== null) clearTimeout(this.#timer);
     this.#timer = null;
-    if (!this.#isChanged || this.#waiting.length === 0) return;
+    if (this.#waiting.length === 0 || !this.#isChanged && !this.#isToGoOn) return;
     const lines = this.#waiting;
     this.#waiting = [];
     try {

@@ -1,4 +1,5 @@
 // What a document is called.
+import { follow } from './tools.js';
 
 /**
  * The text of the first block that has one; nothing where none has.
@@ -10,4 +11,16 @@ export function titleOf({ view }) {
     if (text !== '') return text.slice(0, 60);
   }
   return '';
+}
+
+/**
+ * Calls the tab, and what is printed, as the document.
+ * @param {import('./page.js').Page} page
+ */
+export function showTitle(page) {
+  const unnamed = document.title;
+  follow(page, () => {
+    const title = titleOf(page) || unnamed;
+    if (document.title !== title) document.title = title;
+  });
 }
