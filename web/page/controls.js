@@ -89,6 +89,10 @@ export const controls = {
   'bullet': list('bullet', 'Bulleted list', 'Mod+Shift+8'),
   'number': list('number', 'Numbered list', 'Mod+Shift+7', 1),
   'check': list('check', 'Check list', 'Mod+Shift+9', 1),
+  'toggle-checked': {
+    label: 'Check off', icon: 'done', keys: 'Mod+Enter',
+    lines: ({ block }) => block === 'check' ? command('toggle-checked') : { update: [] },
+  },
   'outdent': { label: 'Decrease indent', icon: 'outdent', keys: 'Mod+[', level: 2, lines: () => command('outdent') },
   'indent': { label: 'Increase indent', icon: 'indent', keys: 'Mod+]', level: 2, lines: () => command('indent') },
 

@@ -55,6 +55,7 @@ export function toolbar(page, element) {
     group([...tableSize(page), moreMenu.button, moreMenu.element]),
   );
   element.append(bar, link.element);
+  page.view.element.ariaDescription = 'Alt and F10 go to the commands. Escape, and then Tab, leaves the document.';
 
   bar.addEventListener('mousedown', event => {
     if (event.target.closest('.tool')) event.preventDefault(); // what is selected stays so
@@ -113,6 +114,7 @@ function moreItems(items) {
     ...items(['clear-format'], 'action'),
     null,
     ...items(['number', 'check'], 'check', 1),
+    ...items(['toggle-checked'], 'action'),
     ...items(['outdent', 'indent'], 'action', 2),
     ...items(alignments, 'choice', 2),
     ...items(['left-to-right', 'right-to-left'], 'check'),
