@@ -10,9 +10,21 @@ export function keepInSight(page) {
   });
   page.on('settled', () => {
     if (!isWanted || isWaiting) return;
+    if (isPartSeen()) {
+      isWanted = false;
+      return;
+    }
     isWaiting = true;
     bringInSight(page, () => { isWanted = isWaiting = false; });
   });
+}
+
+/** Whether text is selected, and some of it can be seen: then what was done there can be, too. */
+function isPartSeen() {
+  const browser = getSelection();
+  if (browser === null || browser.isCollapsed || browser.rangeCount === 0) return false;
+  const { top, bottom } = browser.getRangeAt(0).getBoundingClientRect();
+  return bottom > ROOM && top < document.documentElement.clientHeight - ROOM;
 }
 
 /**
