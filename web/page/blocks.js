@@ -67,9 +67,12 @@ function stepsFor(blocks, made) {
   return steps;
 }
 
+/** Whether an item holds lists alone, and so has no number. */
+const isNesting = ({ children }) => children.length > 0 && isList(children[0]);
+
 /**
  * The steps by which items leave their list, which ends before the first of them. Others behind that go to lists like
- * it. What is left empty is removed.
+ * it, which go on with its numbers. What is left empty is removed.
  * @param {Host} list
  * @param {Set<Host>} leaving
  * @param {(host: Host, as: string) => Step} made
@@ -78,7 +81,7 @@ function stepsFor(blocks, made) {
 function parted(list, leaving, made) {
   const steps = [], items = list.children, parent = list.parent;
   const first = items.findIndex(item => leaving.has(item));
-  let at = indexOf(list) + 1, rest = null;
+  let at = indexOf(list) + 1, rest = null, number = Number(items[first].attributes.get('value') ?? 1);
   items.slice(first).forEach((item, index) => {
     const name = `item-${item.key}`;
     if (leaving.has(item)) {
@@ -88,9 +91,11 @@ function parted(list, leaving, made) {
     }
     if (rest === null) {
       rest = `list-${list.key}-${index}`;
-      steps.push({ new: 'list', fields: { listType: typeOf(list), ...fieldsOf(list) }, as: rest });
+      const start = typeOf(list) === 'number' ? { start: number } : {};
+      steps.push({ new: 'list', fields: { listType: typeOf(list), ...start, ...fieldsOf(list) }, as: rest });
       steps.push({ put: rest, into: parent.key, at: at++ });
     }
+    if (!isNesting(item)) number += 1;
     steps.push({ put: item.key, into: rest });
   });
   return [...steps, ...items.filter(item => leaving.has(item)).map(({ key }) => ({ remove: key }))];
@@ -114,7 +119,8 @@ export function liftedBy(hosts, selection) {
   if (block === null || !isAtStart(hosts, selection.anchor, block)) return null;
   if (block.attributes.has('data-indent')) return 'outdent';
   if (isItem(block)) {
-    if (indexOf(block) > 0) return null;
+    const isEmptyAtEnd = block.children.length === 0 && block === block.parent.children.at(-1);
+    if (indexOf(block) > 0 && !isEmptyAtEnd) return null;
     return isItem(block.parent.parent) ? 'outdent' : 'block-paragraph';
   }
   return block.tag === 'p' ? null : 'block-paragraph';

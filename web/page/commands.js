@@ -5,6 +5,7 @@ import { aligned, blocksMade, liftedBy } from './blocks.js';
 import { cellAt, cellsIn, emptied, formatted, intoTable, nextCell, tableOf, tableRemoved } from './cells.js';
 import { formatBits, formatOf } from './formats.js';
 import { linked, linksIn, unlinked } from './link-lines.js';
+import { listsJoined } from './list-joining.js';
 import { outsideLink } from './outside-links.js';
 import { blockAt, caretAt, inOrder, isCaret, isRange, linesIn, textsIn, within } from './ranges.js';
 import { blockCommands } from './rules.js';
@@ -29,6 +30,10 @@ const own = {
   'delete-table': ({ hosts, selection }) => {
     const cell = cellAt(hosts, selection);
     return updated(cell ? tableRemoved(tableOf(cell)) : []);
+  },
+  'join-lists': ({ hosts, selection }) => {
+    const update = listsJoined(hosts, selection);
+    return { lines: update.length > 0 ? [{ tags: ['history-merge'], update }] : [] };
   },
   'next-cell': place => besideCell(place, false),
   'previous-cell': place => besideCell(place, true),

@@ -35,7 +35,9 @@ const block = (name, label, keys) => ({
 /** @returns {Control} */
 const list = (name, label, keys, level) => ({
   label, icon: name, keys, level,
-  lines: state => state.block === name ? command('remove-list') : command('make-list', name),
+  lines: state => state.block === name
+    ? command('block-paragraph')
+    : [command('make-list', name), command('join-lists')],
   isPressed: state => state.block === name,
 });
 

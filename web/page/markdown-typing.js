@@ -91,6 +91,7 @@ export async function type(page, text) {
     tags: ['history-push'],
     update: [{ select: taken }, { dispatch: 'remove-text' }, ...steps],
   }, null);
+  await page.act({ dispatch: 'join-lists' }, null);
 }
 
 /**

@@ -143,6 +143,24 @@ MOUSE = [
      '<p><span>one</span></p><p><span>twoX</span></p>'),
 ]
 
+NUMBERED = [*'1. a', 'enter', *'b', 'enter', *'c', 'enter', *'d']
+
+LISTS = [
+    ('one item leaves its list, and the numbers go on', lambda page: (
+        page.keys(NUMBERED), page.caret('b'), page.button('number')),
+     '<li value="1"><span>a</span></li></ol><p><span>b</span></p><ol start="2"><li value="2"><span>c<'),
+    ('it is an item again, and the list is whole', lambda page: (
+        page.keys(NUMBERED), page.caret('b'), page.button('number'), page.button('number')),
+     '<div><ol><li value="1"><span>a</span></li><li value="2"><span>b</span></li><li value="3"><span>c<'),
+    ('one undo of that', lambda page: (
+        page.keys(NUMBERED), page.caret('b'), page.button('number'), page.button('number'), page.press('control+z')),
+     '</ol><p><span>b</span></p><ol start="2">'),
+    ('Backspace in an empty item at the end leaves the list', lambda page: page.keys(
+        [*'- a', 'enter', 'backspace', *'b']), '<li value="1"><span>a</span></li></ul><p><span>b</span></p></div>'),
+    ('and again goes back to the item before', lambda page: page.keys([*'- a', 'enter', *['backspace'] * 2, *'b']),
+     '<div><ul><li value="1"><span>ab</span></li></ul></div>'),
+]
+
 CARET = 'const { anchor } = page.selected; return [page.view.hosts.ofKey(anchor[0]).text, anchor[1]]'
 IS_SEEN = 'const { top, bottom } = getSelection().getRangeAt(0).getBoundingClientRect();' \
           'return top > 40 && bottom < innerHeight'
@@ -168,6 +186,18 @@ def reloaded(page, results):
     results.add('the caret after a reload', found + page.notices())
 
 
+def unmoved(page, results):
+    """The window stays where it is if some of what is changed can be seen."""
+    page.anew()
+    page.keys([*['enter'] * 60, *'end', 'control+home'])
+    page.driver.execute_async_script('setTimeout(arguments[0], 100)')
+    before = page.driver.execute_script('return scrollY')
+    page.keys(['control+a', 'control+b'])
+    page.driver.execute_async_script('setTimeout(arguments[0], 100)')
+    after = page.driver.execute_script('return scrollY')
+    results.add('the window as all is made bold', [] if before == after else [f'it went from {before} to {after}'])
+
+
 def narrow(page, results):
     """Nothing is beside the window of a small phone."""
     page.anew()
@@ -185,7 +215,7 @@ def main():
     results = Results()
     with opened() as page:
         reloaded(page, results)
-        for name, do, expected in [*DEVICES, *LINKS, *KEYS, *MOUSE]:
+        for name, do, expected in [*DEVICES, *LINKS, *KEYS, *MOUSE, *LISTS]:
             if chosen and not any(word in name for word in chosen):
                 continue
             page.anew()
@@ -195,6 +225,7 @@ def main():
             if expected not in html:
                 found.append(f'{expected!r} is not in {html!r}')
             results.add(name, found)
+        unmoved(page, results)
         narrow(page, results)
         return results.end(page)
 
