@@ -7,7 +7,7 @@ import { leaveGaps } from './gaps.js';
 import { bringInSight } from './in-sight.js';
 import { enter, type } from './markdown-typing.js';
 import { listenToMouse } from './mouse.js';
-import { blockAt, isCaret, isRange, linesIn } from './ranges.js';
+import { blockAt, inOrder, isCaret, isRange, linesIn } from './ranges.js';
 import { isModHeld, isPressed } from './shortcuts.js';
 import { targetOf } from './targets.js';
 
@@ -97,13 +97,21 @@ function input(page, event) {
   return page.notify('This can’t be done here.');
 }
 
-/** In items, and where several lines are selected, Tab moves a level; in a table to the next cell; else it is typed. */
+/** In items, and where whole lines are selected, Tab moves a level; in a table to the next cell; else it is typed. */
 function tabbed(page, isBack) {
   const { hosts } = page.view, { selected } = page;
   const isItem = isRange(selected) && blockAt(hosts, selected.anchor)?.tag === 'li';
   if (!isItem && cellAt(hosts, selected)) return command(isBack ? 'previous-cell' : 'next-cell');
-  const isMoved = isItem || isBack || (isRange(selected) && linesIn(hosts, selected).length > 1);
+  const isMoved = isItem || isBack || hasWholeLines(hosts, selected);
   return isMoved ? command(isBack ? 'outdent' : 'indent') : command('insert-tab');
+}
+
+/** Whether several lines are selected, or all of one: a tab in their place would take away more than is meant. */
+function hasWholeLines(hosts, selected) {
+  if (!isRange(selected) || isCaret(selected)) return false;
+  const lines = linesIn(hosts, selected), ends = inOrder(hosts, selected);
+  const isWhole = () => String(ends) === String([edgeOf(lines[0], true), edgeOf(lines[0], false)]);
+  return lines.length > 1 || (lines.length === 1 && isWhole());
 }
 
 /** Whether a key with Ctrl or Cmd goes to the end of the document, or to its start; null for others. */

@@ -2,6 +2,7 @@
 // room, buttons of a higher level go into the menu at its end.
 import { controls, stateOf } from './controls.js';
 import { icon } from './icons.js';
+import { linkBubble } from './link-bubble.js';
 import { linkDialog } from './link-dialog.js';
 import { mark, menu } from './menu.js';
 import { isPressed } from './shortcuts.js';
@@ -54,7 +55,7 @@ export function toolbar(page, element) {
     group(tools(lists)),
     group([...tableSize(page), moreMenu.button, moreMenu.element]),
   );
-  element.append(bar, link.element);
+  element.append(bar, link.element, linkBubble(page, link.open));
   page.view.element.ariaDescription = 'Alt and F10 go to the commands. Escape, and then Tab, leaves the document.';
 
   bar.addEventListener('mousedown', event => {

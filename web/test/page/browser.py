@@ -83,6 +83,10 @@ class Page:
         """Waits until all that was done is answered and drawn."""
         self.ask({'show': 'selection'})
 
+    def wait(self, seconds=0.15):
+        """Waits for frames and timers of the page."""
+        self.driver.execute_async_script('setTimeout(arguments[1], arguments[0])', seconds * 1000)
+
     def html(self):
         return self.driver.execute_script(HTML)
 
@@ -194,6 +198,11 @@ class Page:
         feature = {'name': 'prefers-color-scheme', 'value': scheme}
         self.driver.execute_cdp_cmd('Emulation.setEmulatedMedia', {'features': [feature]})
         self.driver.save_screenshot(file)
+
+    def below_link(self, selector):
+        """Presses what is shown below the link with the caret."""
+        self.driver.find_element(By.CSS_SELECTOR, f'.link-bubble > {selector}').click()
+        self.wait()
 
     def act(self, line):
         return self.driver.execute_async_script('page.act(arguments[0]).then(arguments[1])', line)

@@ -8,6 +8,8 @@ them in their names.
 """
 import sys
 
+from selenium.webdriver.common.by import By
+
 from browser import Results, opened
 
 # What a keyboard of a phone, a menu or a spelling checker sends, as the page gets it: events, and what they do to the
@@ -104,10 +106,18 @@ LINKS = [
     ('a link as Markdown has it', lambda page: page.type('a [word](https://x.org) b'),
      '<span>a </span><a href="https://x.org"><span>word</span></a><span> b</span>'),
     ('undo gives back its marks', lambda page: page.keys([*'[word](x.org)', 'control+z', '!']), '>[word](x.org)!</span>'),
+    ('a link is taken away below it', lambda page: (
+        page.type('see https://x.org now'), page.click('a'), page.wait(), page.below_link('button[title^=Remove]')),
+     '<p><span>see https://x.org now</span></p>'),
+    ('a link is changed below it', lambda page: (
+        page.type('see https://x.org now'), page.click('a'), page.wait(), page.below_link('button[title^=Change]'),
+        page.keys(['control+a', *'y.org', 'enter']), page.wait()), '<a href="https://y.org"><span>https://x.org<'),
     ('no link in code', lambda page: page.keys(['control+e', *'x https://x.org y']), '<span>x https://x.org y</span>'),
 ]
 
 KEYS = [
+    ('Tab where all of a line is selected', lambda page: page.keys([*'one', 'control+a', 'tab']),
+     '<p data-indent="1"><span>one</span></p>'),
     ('Up and Down over a rule', lambda page: (ruled(page), page.keys(['arrow_up', 'A', 'arrow_down', 'B'])),
      '<p><span>oneA</span></p><hr data-lexical-decorator="true"><p><span>twoB</span></p>'),
     ('Left and Right over a rule', lambda page: (
@@ -171,11 +181,11 @@ def reloaded(page, results):
     page.driver.execute_script('localStorage.clear(); sessionStorage.clear()')
     page.open()
     page.keys([*['enter'] * 60, *'the end'])
-    page.driver.execute_async_script('setTimeout(arguments[0], 400)')  # the log is written
+    page.wait(0.4)  # the log is written
     page.press('arrow_left', 3)
-    page.driver.execute_async_script('setTimeout(arguments[0], 400)')
+    page.wait(0.4)
     page.open()
-    page.driver.execute_async_script('setTimeout(arguments[0], 100)')
+    page.wait()
     found, caret = page.faults(), page.driver.execute_script(CARET)
     if caret != ['the end', 4]:
         found.append(f'the caret is at {caret}')
@@ -186,14 +196,33 @@ def reloaded(page, results):
     results.add('the caret after a reload', found + page.notices())
 
 
+def opened_below(page, results):
+    """Below a link with the caret is its address, by which it opens."""
+    page.anew()
+    page.type('see https://x.org now')
+    page.click('a')
+    page.wait()
+    link = page.driver.find_element(By.CSS_SELECTOR, '.link-bubble > a')
+    page.act({'update': []})
+    found = page.faults()
+    told = [link.is_displayed(), link.get_attribute('href'), link.get_attribute('target'), link.get_attribute('rel')]
+    if told != [True, 'https://x.org/', '_blank', 'noopener']:
+        found.append(f'below the link is {told}')
+    page.press('escape')
+    page.wait()
+    if link.is_displayed():
+        found.append('Escape does not close it')
+    results.add('what is below a link', found)
+
+
 def unmoved(page, results):
     """The window stays where it is if some of what is changed can be seen."""
     page.anew()
     page.keys([*['enter'] * 60, *'end', 'control+home'])
-    page.driver.execute_async_script('setTimeout(arguments[0], 100)')
+    page.wait()
     before = page.driver.execute_script('return scrollY')
     page.keys(['control+a', 'control+b'])
-    page.driver.execute_async_script('setTimeout(arguments[0], 100)')
+    page.wait()
     after = page.driver.execute_script('return scrollY')
     results.add('the window as all is made bold', [] if before == after else [f'it went from {before} to {after}'])
 
@@ -204,7 +233,7 @@ def narrow(page, results):
     table(page, 2, 3, ['some', 'words'])
     metrics = {'width': 320, 'height': 600, 'deviceScaleFactor': 1, 'mobile': True}
     page.driver.execute_cdp_cmd('Emulation.setDeviceMetricsOverride', metrics)
-    page.driver.execute_async_script('setTimeout(arguments[0], 200)')
+    page.wait()
     width = page.driver.execute_script('return document.documentElement.scrollWidth')
     page.driver.execute_cdp_cmd('Emulation.clearDeviceMetricsOverride', {})
     results.add('a window of 320 pixels', [] if width == 320 else [f'the page is {width} pixels wide'])
@@ -225,6 +254,7 @@ def main():
             if expected not in html:
                 found.append(f'{expected!r} is not in {html!r}')
             results.add(name, found)
+        opened_below(page, results)
         unmoved(page, results)
         narrow(page, results)
         return results.end(page)
