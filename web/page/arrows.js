@@ -19,30 +19,46 @@ export function listenToArrows(page) {
   const { element } = page.view;
   /** @type {number | null} where in its line the caret was as the first of several keys was pressed */
   let column = null;
+  let isAtLineEnd = false;
   element.addEventListener('keydown', event => {
     const isDown = downward[event.key], isHeld = event.ctrlKey || event.metaKey || event.altKey;
     if (isDown === undefined || isHeld || event.isComposing || event.defaultPrevented) {
-      if (event.key !== 'Shift') column = null;
+      if (event.key !== 'Shift') [column, isAtLineEnd] = [null, event.key === 'End'];
       return;
     }
-    const browser = element.ownerDocument.getSelection();
-    if (!browser || browser.focusNode === null) return;
-    column ??= placeOfCaret(browser).left;
-    if (!(event.shiftKey ? extend(page, isDown) : move(page, isDown, column))) return;
+    const caret = placeOfFocus(element.ownerDocument.getSelection(), isAtLineEnd);
+    if (caret === null) return;
+    column ??= caret.left;
+    if (!(event.shiftKey ? extend(page, isDown, caret) : move(page, isDown, caret, column))) return;
     event.preventDefault();
     bringInSight(page);
   });
-  element.addEventListener('mousedown', () => { column = null; });
+  element.addEventListener('mousedown', () => { [column, isAtLineEnd] = [null, false]; });
+}
+
+/**
+ * Where the caret is. Where a line is broken by the window it may be in two places: it is at the end of a line behind
+ * the key End, and else at the start of the next.
+ */
+function placeOfFocus({ focusNode, focusOffset }, isAtLineEnd) {
+  if (focusNode === null) return null;
+  if (isAtLineEnd || focusNode.nodeType !== Node.TEXT_NODE || focusOffset === focusNode.data.length) {
+    return placeOfCaret({ focusNode, focusOffset });
+  }
+  const next = focusNode.ownerDocument.createRange();
+  next.setStart(focusNode, focusOffset);
+  next.setEnd(focusNode, focusOffset + 1);
+  return next.getClientRects()[0] ?? placeOfCaret({ focusNode, focusOffset });
 }
 
 /** With Shift a caret in a cell selects this and the next one; more keys select more. Whether that is done. */
-function extend(page, isDown) {
+function extend(page, isDown, caret) {
   const { selected, view: { hosts } } = page;
   if (!selected || selected.keys) return false;
   const isOfCells = selected.table !== undefined;
   const [anchor, focus] = [selected.anchor, selected.focus].map(end => cellOf(hosts.ofKey(isOfCells ? end : end[0])));
   if (focus === null || tableOf(anchor) !== tableOf(focus)) return false;
-  if (!isOfCells && !isOnLastLine(page, isDown)) return false;
+  if (!isOfCells && !isOnLastLine(page, isDown, caret)) return false;
   const next = cellBeyond(focus, isDown);
   if (next === null) return isOfCells;
   const cells = { anchor: anchor.key, focus: next.key, table: tableOf(focus).key };
@@ -51,10 +67,10 @@ function extend(page, isDown) {
 }
 
 /** Moves the caret if the way goes over the edge of a cell, into a table or over a rule: whether it does. */
-function move(page, isDown, column) {
+function move(page, isDown, caret, column) {
   const { selected, view } = page;
   const block = isRange(selected) ? blockAt(view.hosts, selected.focus) : null;
-  if (block === null || !isOnLastLine(page, isDown)) return false;
+  if (block === null || !isOnLastLine(page, isDown, caret)) return false;
   const target = targetBeyond(view, block, isDown, column), browser = view.element.ownerDocument.getSelection();
   if (target === null || browser === null) return false;
   const place = placeIn(view, target, isDown, column);
@@ -63,13 +79,13 @@ function move(page, isDown, column) {
 }
 
 /** Whether the caret is on the last line of its block, or on the first on the way up. */
-function isOnLastLine({ selected, view }, isDown) {
+function isOnLastLine({ selected, view }, isDown, caret) {
   const block = blockAt(view.hosts, selected.focus);
   if (block === null) return false;
   const inside = view.element.ownerDocument.createRange();
   inside.selectNodeContents(view.elementOf(block));
   const lines = Array.from(inside.getClientRects()).filter(({ height }) => height > 0);
-  const caret = placeOfCaret(view.element.ownerDocument.getSelection()), middle = (caret.top + caret.bottom) / 2;
+  const middle = (caret.top + caret.bottom) / 2;
   return lines.every(({ top, bottom }) => isDown ? top < middle : bottom > middle);
 }
 

@@ -50,8 +50,10 @@ export function linkBubble(page, edit) {
     left = keyOfLink(page);
     element.hidePopover();
   });
-  page.view.element.addEventListener('blur', () => element.hidePopover());
-  page.view.element.addEventListener('focus', update);
+  for (const name of ['blur', 'focus']) {
+    // Not at once: the browser may be about to open or to close something else.
+    page.view.element.addEventListener(name, () => { requestAnimationFrame(update); });
+  }
   addEventListener('scroll', () => { if (element.matches(':popover-open')) update(); }, { passive: true });
   follow(page, update);
   return element;

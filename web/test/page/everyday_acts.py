@@ -130,6 +130,9 @@ KEYS = [
     ('Down out of a table, and up into its first column', lambda page: (
         table(page, 2, 2, 'abcd'), page.keys(['arrow_down', 'X', 'home', 'arrow_up', 'Y'])),
      '<td><p><span>Yc</span></p></td><td><p><span>d</span></p></td></tr></table><p><span>X</span></p>'),
+    ('Down from a cell of several lines', lambda page: (
+        table(page, 2, 2, ['word ' * 40, 'b', 'c', 'd']), page.keys(['shift+tab'] * 3),
+        page.keys([*['arrow_left'] * 6, *['home'] * 2, 'arrow_down', 'X'])), '<p><span>Xc</span></p>'),
     ('Left out of a table, and Right into it', lambda page: (
         table(page, 1, 2, 'ab'), page.keys(['shift+tab', 'home', 'arrow_left', 'X', 'arrow_right', 'Y'])),
      '<p><span>X</span></p><table><tr><td><p><span>Ya</span>'),
