@@ -9,6 +9,7 @@ import { linksIn } from './link-lines.js';
 import { outsideLink } from './outside-links.js';
 import { blockAt, caretAt, inOrder, isCaret, isRange, placesOf } from './ranges.js';
 import { isEmpty, stepsOfSlice, stepsOfText, textOf } from './slices.js';
+import { withChecks } from './todo-marks.js';
 
 /** @typedef {import('./page.js').Page} Page */
 /** @typedef {import('../hosts.js').Hosts} Hosts */
@@ -171,7 +172,7 @@ function sliceIn(page, data) {
     const slice = /** @type {Slice} */ (sliceFromHtml(html)); // at once, since this is a page
     if (isEmpty(slice)) return null;
     if (hasPicture.test(html)) page.notify('Pictures were left out: their descriptions stand for them.');
-    return slice;
+    return { ...slice, nodes: /** @type {any} */ (withChecks(slice.nodes)) };
   } catch (error) {
     if (!(error instanceof ContentError)) throw error;
     page.notify('The formatted text is too large, or nests too deep. Its plain text is taken.');

@@ -5,6 +5,7 @@ import { Hosts } from '../hosts.js';
 import { stepsFor } from '../page/clipboard.js';
 import { sliceOfCells } from '../page/copied-cells.js';
 import { documentOf, documentOfText, sliceOf, textOf } from '../page/slices.js';
+import { withChecks } from '../page/todo-marks.js';
 import { newCore } from './helper.mjs';
 
 const core = await newCore();
@@ -119,4 +120,19 @@ test('plain text of what is copied', () => {
 
 test('a file of plain text keeps its blank lines', () => {
   assert.equal(textOf(documentOfText('a\n\nb\n').root.children), 'a\n\n\n\nb');
+});
+
+test('to-dos that are marked in a list become items with checks, and others stay', () => {
+  const nodes = withChecks([
+    paragraph('[ ] no item'),
+    list(item(text('a')), item(text('[x] done')), item(list(item(text('[ ] inner')))), item(text('[ ]')), item(text('b'))),
+  ]);
+  const shown = node => node.type === 'text' ? node.text : [node.listType ?? node.checked ?? node.type, ...node.children.map(shown)];
+  assert.deepEqual(nodes.map(shown), [
+    ['paragraph', '[ ] no item'],
+    ['bullet', ['listitem', 'a']],
+    ['check', [true, 'done'], ['listitem', ['check', [false, 'inner']]], [false]],
+    ['bullet', ['listitem', 'b']],
+  ]);
+  assert.deepEqual(nodes[2].children.map(({ value }) => value), [1, 2, 2]);
 });

@@ -174,6 +174,15 @@ LISTS = [
      '<div><ul><li value="1"><span>ab</span></li></ul></div>'),
 ]
 
+PASTED = [
+    ('to-dos of Notion', lambda page: page.paste(html=(
+        '<ul>\n<li>a\n<ul>\n<li>b</li>\n</ul>\n</li>\n</ul>\n<ul>\n<li>[ ]  Task</li>\n<li>[x]  Done</li>\n</ul>'
+        '<!-- notionvc: 1 -->')),
+     '<ul><li value="1"><span>a</span></li><li value="2"><ul><li value="1"><span>b</span></li></ul></li></ul><ul>'
+     '<li aria-checked="false" role="checkbox" value="1"><span>Task</span></li>'
+     '<li aria-checked="true" role="checkbox" value="2"><span>Done</span></li></ul>'),
+]
+
 CARET = 'const { anchor } = page.selected; return [page.view.hosts.ofKey(anchor[0]).text, anchor[1]]'
 IS_SEEN = 'const { top, bottom } = getSelection().getRangeAt(0).getBoundingClientRect();' \
           'return top > 40 && bottom < innerHeight'
@@ -247,7 +256,7 @@ def main():
     results = Results()
     with opened() as page:
         reloaded(page, results)
-        for name, do, expected in [*DEVICES, *LINKS, *KEYS, *MOUSE, *LISTS]:
+        for name, do, expected in [*DEVICES, *LINKS, *KEYS, *MOUSE, *LISTS, *PASTED]:
             if chosen and not any(word in name for word in chosen):
                 continue
             page.anew()
