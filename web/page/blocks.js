@@ -1,6 +1,6 @@
 // The types of blocks: paragraphs, headings, quotes. All selected lines are made one, and items leave their lists.
-import { indexOf, isList } from '../hosts-order.js';
-import { blockAt, isAtStart, isCaret, linesIn } from './ranges.js';
+import { edgeOf, indexOf, isBlock, isList } from '../hosts-order.js';
+import { blockAt, caretAt, isAtStart, isCaret, linesIn } from './ranges.js';
 import { blockCommands } from './rules.js';
 
 /** @typedef {import('../hosts.js').Host} Host */
@@ -124,6 +124,34 @@ export function liftedBy(hosts, selection) {
     return isItem(block.parent.parent) ? 'outdent' : 'block-paragraph';
   }
   return block.tag === 'p' ? null : 'block-paragraph';
+}
+
+/**
+ * The steps by which Enter at the start of a heading or a quote puts an empty paragraph before it, or null elsewhere:
+ * what follows stays what it is.
+ * @param {Hosts} hosts
+ * @param {Selection} selection
+ * @returns {Step[] | null}
+ */
+export function pushedDown(hosts, selection) {
+  const block = isCaret(selection) ? blockAt(hosts, selection.anchor) : null;
+  if (block === null || block.tag === 'p' || isItem(block) || block.children.length === 0) return null;
+  if (!isAtStart(hosts, selection.anchor, block)) return null;
+  return [{ new: 'paragraph', as: 'before' }, { put: 'before', into: block.parent.key, at: indexOf(block) }];
+}
+
+/**
+ * The steps by which Delete in an empty paragraph takes that away, or null elsewhere: the next block stays what it is.
+ * @param {Hosts} hosts
+ * @param {Selection} selection
+ * @returns {Step[] | null}
+ */
+export function emptyRemoved(hosts, selection) {
+  const block = isCaret(selection) ? blockAt(hosts, selection.anchor) : null;
+  if (block?.tag !== 'p' || block.children.length > 0) return null;
+  const next = block.parent.children[indexOf(block) + 1];
+  if (!next || !(isBlock(next) || isList(next))) return null;
+  return [{ select: caretAt(edgeOf(next, true)) }, { remove: block.key }];
 }
 
 /**

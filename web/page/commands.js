@@ -1,7 +1,7 @@
 // What a line of an act becomes. The page has commands that the core hasn't, and the core's own are meant for a range
 // in one frame: where cells are selected, or a table from its midst on, the page says what is done instead.
 import { edgeOf, indexOf, isCell } from '../hosts-order.js';
-import { aligned, blocksMade, liftedBy } from './blocks.js';
+import { aligned, blocksMade, emptyRemoved, liftedBy, pushedDown } from './blocks.js';
 import { cellAt, cellsIn, emptied, formatted, intoTable, nextCell, tableOf, tableRemoved } from './cells.js';
 import { formatBits, formatOf } from './formats.js';
 import { linked, linksIn, unlinked } from './link-lines.js';
@@ -78,10 +78,18 @@ function ofCore(place, line) {
     if (lifting === 'outdent') return { dispatch: 'outdent' };
     if (lifting) return own[lifting](place).lines[0];
   }
-  const steps = ofOneSide.has(name) ? intoTable(hosts, selection, payload === 'back') : null;
+  const steps = stepsBeside(place, line);
   if (steps) return { update: steps };
   const isBetweenBlocks = inserting.has(name) && isRange(selection) && hasNoBlock(hosts, selection);
   return isBetweenBlocks ? { update: [{ dispatch: 'insert-paragraph' }, line] } : line;
+}
+
+/** The steps of a command whose outcome depends on what is next to the block with the caret, or null. */
+function stepsBeside({ hosts, selection }, { dispatch: name, payload }) {
+  if (name === 'insert-paragraph') return pushedDown(hosts, selection);
+  if (!ofOneSide.has(name)) return null;
+  const steps = payload === 'forward' ? emptyRemoved(hosts, selection) : null;
+  return steps ?? intoTable(hosts, selection, payload === 'back');
 }
 
 /** Whether a range is all of the document: where that goes, a paragraph is left, whatever the first block was. */

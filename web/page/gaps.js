@@ -1,5 +1,5 @@
 // No caret stays between blocks, beside a rule or a table, where a browser draws none: it goes on to the next block.
-import { edgeOf, isBlock, isList } from '../hosts-order.js';
+import { edgeOf } from '../hosts-order.js';
 import { placeOf } from '../selection.js';
 import { blockAt, isCaret } from './ranges.js';
 
@@ -35,6 +35,6 @@ function pointBeyond({ selected, view: { hosts } }, isBack) {
   if (!isCaret(selected) || selected.anchor[2] === 'text' || blockAt(hosts, selected.anchor) !== null) return null;
   const [key, offset] = selected.anchor, { children } = /** @type {Host} */ (hosts.ofKey(key));
   const ahead = isBack ? children.slice(0, offset).reverse() : children.slice(offset);
-  const next = ahead.find(host => isBlock(host) || isList(host) || host.tag !== 'hr');
+  const next = ahead.find(({ tag }) => tag !== 'hr');
   return next ? edgeOf(next, !isBack, true) : null;
 }

@@ -1,5 +1,5 @@
-// To-dos that another program writes as marks in a list, as Notion does: `[ ] Task` and `[x] Task`. They become items of
-// a list of checks, and others around them stay as they are.
+// To-dos that another program writes as marks in a list, as Notion does: `[ ] Task` and `[x] Task`. They become items
+// of a list of checks, and others around them stay as they are.
 
 /** @typedef {import('./slices.js').Node} Node */
 

@@ -20,8 +20,8 @@ for (const [name, details, text, caret] of steps) {
   const node = document.createTreeWalker(element, NodeFilter.SHOW_TEXT).nextNode(), { range, data, moved } = details;
   if (moved !== undefined) getSelection().collapse(node, moved);
   const common = { bubbles: true, cancelable: true, data, isComposing: details.isComposing ?? false };
-  const [startOffset, endOffset] = range ?? [0, 0];
-  const targetRanges = range ? [new StaticRange({ startContainer: node, startOffset, endContainer: node, endOffset })] : [];
+  const [startOffset, endOffset] = range ?? [0, 0], ends = { startContainer: node, endContainer: node };
+  const targetRanges = range ? [new StaticRange({ ...ends, startOffset, endOffset })] : [];
   element.dispatchEvent(name.startsWith('composition')
     ? new CompositionEvent(name, common)
     : new InputEvent('beforeinput', { ...common, inputType: name, targetRanges }));
@@ -105,7 +105,8 @@ LINKS = [
      '<p><span>https://x.org on</span></p>'),
     ('a link as Markdown has it', lambda page: page.type('a [word](https://x.org) b'),
      '<span>a </span><a href="https://x.org"><span>word</span></a><span> b</span>'),
-    ('undo gives back its marks', lambda page: page.keys([*'[word](x.org)', 'control+z', '!']), '>[word](x.org)!</span>'),
+    ('undo gives back its marks', lambda page: page.keys([*'[word](x.org)', 'control+z', '!']),
+     '>[word](x.org)!</span>'),
     ('a link is taken away below it', lambda page: (
         page.type('see https://x.org now'), page.click('a'), page.wait(), page.below_link('button[title^=Remove]')),
      '<p><span>see https://x.org now</span></p>'),
@@ -139,6 +140,13 @@ KEYS = [
     ('cells that Shift and Down select', lambda page: (
         table(page, 2, 2, 'abcd'), page.caret('b'), page.keys(['shift+arrow_down', 'control+b'])),
      '<strong class="bold">b</strong></p></td></tr><tr><td><p><span>c</span></p></td><td><p><strong class="bold">d<'),
+    ('Enter at the start of a heading, and of a quote', lambda page: page.keys(
+        [*'# One', 'home', 'enter', *'X', 'end', 'enter', *'> said', 'home', 'enter', *'Y']),
+     '<div><p><br></p><h1><span>XOne</span></h1><p><br></p><blockquote><span>Ysaid</span></blockquote></div>'),
+    ('Delete in an empty paragraph before a heading', lambda page: page.keys(
+        ['enter', *'# One', 'control+home', 'delete', 'X']), '<div><h1><span>XOne</span></h1></div>'),
+    ('Delete in an empty paragraph before a list', lambda page: page.keys(
+        ['enter', *'- One', 'control+home', 'delete', 'X']), '<div><ul><li value="1"><span>XOne</span>'),
     ('an item is checked by keys', lambda page: page.keys([*'[] one', 'control+enter']),
      '<li aria-checked="true" role="checkbox" value="1"><span>one'),
 ]
@@ -149,7 +157,8 @@ MOUSE = [
     ('a double click behind the last word', lambda page: (
         page.keys([*'one', 'enter', *'two']), page.click_often('p', 2), page.type('X')),
      '<p><span>oneX</span></p><p><span>two</span></p>'),
-    ('a click left of the document', lambda page: (page.keys([*'one', 'enter', *'two']), at(page, -40, 40), page.type('X')),
+    ('a click left of the document', lambda page: (
+        page.keys([*'one', 'enter', *'two']), at(page, -40, 40), page.type('X')),
      '<p><span>Xone</span></p><p><span>two</span></p>'),
     ('a click right of the document, and far below its end', lambda page: (
         page.keys([*'one', 'enter', *'two']), page.press('home'), at(page, 820, 400), page.type('X')),
