@@ -9,7 +9,9 @@ import { blockAt, isRange } from './ranges.js';
 
 /** @typedef {import('./page.js').Page} Page */
 /** @typedef {import('../hosts.js').Host} Host */
-/** @typedef {import('../lines.js').Selection} Selection */
+/** @typedef {import('../dom.js').View} View */
+/** @typedef {import('./places.js').Place} Place */
+/** @typedef {{ left: number, top: number, bottom: number }} Line where the caret is, in the window */
 
 /** @type {Record<string, boolean>} */
 const downward = { ArrowUp: false, ArrowDown: true };
@@ -39,6 +41,9 @@ export function listenToArrows(page) {
 /**
  * Where the caret is. Where a line is broken by the window it may be in two places: it is at the end of a line behind
  * the key End, and else at the start of the next.
+ * @param {globalThis.Selection} browser
+ * @param {boolean} isAtLineEnd
+ * @returns {Line | null}
  */
 function placeOfFocus({ focusNode, focusOffset }, isAtLineEnd) {
   if (focusNode === null) return null;
@@ -51,7 +56,12 @@ function placeOfFocus({ focusNode, focusOffset }, isAtLineEnd) {
   return next.getClientRects()[0] ?? placeOfCaret({ focusNode, focusOffset });
 }
 
-/** With Shift a caret in a cell selects this and the next one; more keys select more. Whether that is done. */
+/**
+ * With Shift a caret in a cell selects this and the next one; more keys select more. Whether that is done.
+ * @param {Page} page
+ * @param {boolean} isDown
+ * @param {Line} caret
+ */
 function extend(page, isDown, caret) {
   const { selected, view: { hosts } } = page;
   if (!selected || selected.keys) return false;
@@ -66,7 +76,13 @@ function extend(page, isDown, caret) {
   return true;
 }
 
-/** Moves the caret if the way goes over the edge of a cell, into a table or over a rule: whether it does. */
+/**
+ * Moves the caret if the way goes over the edge of a cell, into a table or over a rule: whether it does.
+ * @param {Page} page
+ * @param {boolean} isDown
+ * @param {Line} caret
+ * @param {number} column
+ */
 function move(page, isDown, caret, column) {
   const { selected, view } = page;
   const block = isRange(selected) ? blockAt(view.hosts, selected.focus) : null;
@@ -78,7 +94,12 @@ function move(page, isDown, caret, column) {
   return place !== null;
 }
 
-/** Whether the caret is on the last line of its block, or on the first on the way up. */
+/**
+ * Whether the caret is on the last line of its block, or on the first on the way up.
+ * @param {Page} page
+ * @param {boolean} isDown
+ * @param {Line} caret
+ */
 function isOnLastLine({ selected, view }, isDown, caret) {
   const block = blockAt(view.hosts, selected.focus);
   if (block === null) return false;
@@ -91,7 +112,7 @@ function isOnLastLine({ selected, view }, isDown, caret) {
 
 /**
  * The block or cell that the way up or down from a block leads to, or null where the browser finds it.
- * @param {import('../dom.js').View} view
+ * @param {View} view
  * @param {Host} block
  * @param {boolean} isDown
  * @param {number} column
@@ -117,7 +138,12 @@ function targetBeyond(view, block, isDown, column) {
   }
 }
 
-/** What is behind a host, or before it, in its cell or in the document: also behind the lists that it ends. */
+/**
+ * What is behind a host, or before it, in its cell or in the document: also behind the lists that it ends.
+ * @param {Host} host
+ * @param {boolean} isDown
+ * @returns {Host | null}
+ */
 function siblingBeyond(host, isDown) {
   for (let at = host; at.parent !== null && !isCell(at); at = at.parent) {
     const sibling = at.parent.children[indexOf(at) + (isDown ? 1 : -1)];
@@ -126,7 +152,12 @@ function siblingBeyond(host, isDown) {
   return null;
 }
 
-/** The cell below another one, or above it, or null. */
+/**
+ * The cell below another one, or above it, or null.
+ * @param {Host} cell
+ * @param {boolean} isDown
+ * @returns {Host | null}
+ */
 function cellBeyond(cell, isDown) {
   const areas = areasOf(tableOf(cell)), from = areas.find(area => area.cell === cell);
   const row = isDown ? from.bottom + 1 : from.top - 1;
@@ -136,7 +167,14 @@ function cellBeyond(cell, isDown) {
   return found?.cell ?? null;
 }
 
-/** The cell of a table's first row, or its last one, that is nearest to a column of the window. */
+/**
+ * The cell of a table's first row, or its last one, that is nearest to a column of the window.
+ * @param {View} view
+ * @param {Host} table
+ * @param {boolean} isDown
+ * @param {number} column
+ * @returns {Host}
+ */
 function cellOfEdge(view, table, isDown, column) {
   const areas = areasOf(table), row = isDown ? 0 : table.children.length - 1;
   const distance = ({ cell }) => {
@@ -147,7 +185,14 @@ function cellOfEdge(view, table, isDown, column) {
   return cells.reduce((nearest, each) => distance(each) < distance(nearest) ? each : nearest).cell;
 }
 
-/** The place on the first line of a host, or on its last on the way up, that is nearest to a column of the window. */
+/**
+ * The place on the first line of a host, or on its last on the way up, that is nearest to a column of the window.
+ * @param {View} view
+ * @param {Host} host
+ * @param {boolean} isDown
+ * @param {number} column
+ * @returns {Place | null}
+ */
 function placeIn(view, host, isDown, column) {
   const edge = placeOf(view, edgeOf(host, isDown, true));
   if (edge === null) return null;

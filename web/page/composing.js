@@ -81,7 +81,12 @@ function goingOn(page, event, { selected, isWord, start }) {
   };
 }
 
-/** How many characters of a composed text are behind the caret. */
+/**
+ * How many characters of a composed text are behind the caret.
+ * @param {Page} page
+ * @param {Composition} composition
+ * @param {string} text
+ */
 function behindCaret(page, { start }, text) {
   const { focusNode, focusOffset } = page.view.element.ownerDocument.getSelection();
   if (start === null || focusNode !== start.node || focusOffset < start.offset) return 0;
@@ -91,6 +96,10 @@ function behindCaret(page, { start }, text) {
 /**
  * Types what was composed. A composition that comes to nothing leaves what was selected, but takes the word away that
  * it was made of.
+ * @param {Page} page
+ * @param {Composition} composition
+ * @param {string} text
+ * @param {number} behind how many of its characters are behind the caret
  */
 async function typeComposed(page, { selected, isWord }, text, behind) {
   if (text === '') {

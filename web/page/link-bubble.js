@@ -8,6 +8,7 @@ import { isCaret } from './ranges.js';
 import { follow } from './tools.js';
 
 /**
+ * Makes what is shown below a link, to be put into the document.
  * @param {import('./page.js').Page} page
  * @param {() => void} edit opens the dialog of the link at the caret
  * @returns {HTMLElement}
