@@ -9,7 +9,7 @@ import { enter, type } from './markdown-typing.js';
 import { listenToMouse } from './mouse.js';
 import { blockAt, inOrder, isCaret, isRange, linesIn } from './ranges.js';
 import { isModHeld, isPressed } from './shortcuts.js';
-import { targetOf } from './targets.js';
+import { restOfParagraph, targetOf } from './targets.js';
 
 /** @typedef {import('./page.js').Page} Page */
 
@@ -92,9 +92,22 @@ function input(page, event) {
   if (inputType === 'insertLink' && text !== '') return page.act(command('link', text));
   if (commands[inputType]) return page.act(commands[inputType]);
   // A word of the spelling checker, or all to the end of a line on the screen: the browser says what is meant.
-  if (inputType.startsWith('delete')) return page.act(command('remove-text'), selected);
+  if (inputType.startsWith('delete')) return remove(page, inputType, selected);
   if (inputType.startsWith('insert') && text !== '') return page.act(command('insert-text', text), selected);
   return page.notify('This can’t be done here.');
+}
+
+/**
+ * Takes away what the browser says: all to the end of a line on the screen, or to its start. Where that is nothing, the
+ * break there goes. What a paragraph has is told by the document.
+ */
+function remove(page, inputType, told) {
+  const [, kind, direction] = /(Soft|Hard)Line(Backward|Forward)$/.exec(inputType) ?? [];
+  const { hosts } = page.view, { selected } = page;
+  if (kind === undefined || !isCaret(selected)) return page.act(command('remove-text'), told);
+  const line = kind === 'Hard' ? restOfParagraph(hosts, selected.anchor, direction === 'Forward') : told;
+  if (line && !isCaret(line)) return page.act(command('remove-text'), line);
+  return page.act(command('delete-character', direction === 'Forward' ? 'forward' : 'back'));
 }
 
 /** In items, and where whole lines are selected, Tab moves a level; in a table to the next cell; else it is typed. */

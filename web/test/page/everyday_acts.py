@@ -51,6 +51,14 @@ def key_of_layout(page, key, code, number):
             'type': kind, 'modifiers': 2, 'key': key, 'code': code, 'windowsVirtualKeyCode': number})
 
 
+def command(page, name, times=1):
+    """A command of the browser's own, as a key of another system or a menu sends it."""
+    for kind in ['rawKeyDown', 'keyUp'] * times:
+        commands = {'commands': [name]} if kind == 'rawKeyDown' else {}
+        page.driver.execute_cdp_cmd('Input.dispatchKeyEvent', {'type': kind, 'key': '', 'code': '', **commands})
+    page.rest()
+
+
 def at(page, x, y):
     """Clicks so many pixels from the document's left and top edges."""
     left, top = page.driver.execute_script('const { left, top } = page.view.element.getBoundingClientRect();'
@@ -88,6 +96,15 @@ DEVICES = [
     ('a link from a menu', lambda page: (
         page.type('word'), page.select('word', 0, 'word', 4), sent(page, ('insertLink', {'data': 'https://x.org'}))),
      '<a href="https://x.org"><span>word</span></a>'),
+    ('all to the start of the line, and then the break before it', lambda page: (
+        page.keys([*'one', 'enter', *'two']), command(page, 'DeleteToBeginningOfLine', 2), page.type('X')),
+     '<div><p><span>oneX</span></p></div>'),
+    ('all to the end of the paragraph, and then the break behind it', lambda page: (
+        page.keys([*'one', 'enter', *'two', 'enter', *'three', *['arrow_up'] * 2, 'home', 'arrow_right']),
+        command(page, 'DeleteToEndOfParagraph', 2)), '<div><p><span>otwo</span></p><p><span>three</span></p></div>'),
+    ('all to a line break', lambda page: (
+        page.keys([*'one', 'shift+enter', *'two', 'arrow_up', 'home']), command(page, 'DeleteToEndOfParagraph')),
+     '<div><p><br><span>two</span></p></div>'),
     ('undo and bold on a Cyrillic keyboard', lambda page: (
         page.type('word'), page.press('enter'), key_of_layout(page, 'я', 'KeyZ', 90), page.press('control+a'),
         key_of_layout(page, 'и', 'KeyB', 66)),
