@@ -5,10 +5,13 @@ import pathlib
 import signal
 import subprocess
 import time
+from typing import Any
 
 import psycopg
 
 PROGRAMS = max(pathlib.Path("/usr/lib/postgresql").glob("*/bin"), default=pathlib.Path())
+RUN_SECONDS = 120.0  # for a command of PostgreSQL
+GONE_SECONDS = 60.0  # for what was killed
 
 
 def children(process: int) -> list[int]:
@@ -33,6 +36,7 @@ class Cluster:
         self.folder, self.first, self.second = folder, folder / "first", folder / "second"
         self.address = (f"host={folder},{folder} port=5433,5434 user=service dbname=postgres "
                         "target_session_attrs=read-write")
+        self.options = ["--database", self.address]
 
     def begin(self, standbys: str) -> None:
         """Makes both. `standbys` is `*`, or empty where nothing waits for the second."""
@@ -44,6 +48,11 @@ class Cluster:
             connection.execute((self.folder / "vaultsatin_service/schema.sql").read_bytes())
             connection.execute(f"alter system set synchronous_standby_names = '{standbys}'".encode())
             connection.execute("select pg_reload_conf()")
+
+    def rows(self, columns: str) -> list[tuple[Any, ...]]:
+        """What is there, in order."""
+        with psycopg.connect(self.address) as connection:
+            return connection.execute(f"select {columns} from entry order by document, number, epoch".encode()).fetchall()
 
     def restart_first(self) -> None:
         """Kills all processes of the first at once, as if its machine had lost its power for a moment."""
@@ -86,7 +95,10 @@ class Cluster:
 
     def _kill(self, data: pathlib.Path) -> None:
         send(gone := self._processes(data))
+        ends = time.monotonic() + GONE_SECONDS
         while any(pathlib.Path(f"/proc/{it}").exists() for it in gone):
+            if time.monotonic() > ends:
+                raise TimeoutError("a database that was killed is still there")
             time.sleep(0.01)
 
     def _start(self, data: pathlib.Path, port: int) -> None:
@@ -95,5 +107,5 @@ class Cluster:
     def _run(self, program: str, *words: object) -> None:
         """PostgreSQL doesn't run as root."""
         subprocess.run([str(it) for it in (PROGRAMS / program, *words)], check=True, cwd="/",
-                       stdout=subprocess.DEVNULL, stderr=subprocess.DEVNULL,
+                       stdout=subprocess.DEVNULL, stderr=subprocess.DEVNULL, timeout=RUN_SECONDS,
                        user="postgres" if os.getuid() == 0 else None)

@@ -15,7 +15,8 @@ FAULTS: dict[str, tuple[str, str, str]] = {
     "seen-by-number": ("run.py", "        if place == self.place:\n            return True\n",
                        "        if self.epoch <= place.number <= self.place.number:\n            return True\n"),
     "rules-lost": ("document.py", "% (state, rules)", "% (state, b'')"),
-    "process-ahead": ("documents.py", "document.end()  # it may be ahead of the log", "pass"),
+    "process-ahead": ("documents.py", "document.end()  # it may be ahead of the log",
+                      "if isinstance(error, Ended):\n                    document.end()"),
     "row-before-unseen": ("statements.py", "where :number = 0 or exists", "where :number >= 0 or exists"),
     "done-unwaited": ("statements.py",
                       'DONE = f"update entry set id = id where document = :document and request = :request '
@@ -24,7 +25,10 @@ FAULTS: dict[str, tuple[str, str, str]] = {
     "reader-unseen": ("statements.py", "and number = :number and id = :id), 0)", "and number = :number), 0)"),
     ALONE: ("", "", ""),
 }
-LIMITS = {  # shorter ones, so that pauses pass them
+IN_FILE = ("no-request-key", "any-epoch", "not-exact", "seen-by-number", "rules-lost", "process-ahead", "reader-unseen")
+LIMITS = {  # shorter ones, so that pauses pass them, and what is asked again isn't remembered
+    "RECENT_REQUESTS = 256": "RECENT_REQUESTS = 4",
+    "RECENT_ROWS = 256": "RECENT_ROWS = 8",
     "PIECE_SECONDS = 10.0": "PIECE_SECONDS = 4.0",
     "REQUEST_SECONDS = 30.0": "REQUEST_SECONDS = 12.0",
     "QUIET_SECONDS = 5.0": "QUIET_SECONDS = 600.0",  # a state that can't be kept ends the process, which hides a fault

@@ -1,56 +1,72 @@
-"""What goes wrong while clients work: with workers, with processes, and with databases."""
+"""What goes wrong while clients work: with workers, with processes, and with what keeps the log."""
 import asyncio
 import contextlib
 import random
 import signal
+import subprocess
 import time
 from collections.abc import Awaitable, Callable
+from typing import NamedTuple
 
 import aiohttp
 
 from .cluster import Cluster, children, send
+from .file import File, fill_disk
 from .trial import CARET, HEADERS, RULES, Asked, Trial, Worker
 
 WITNESSES = [f"witness-{number}" for number in range(3)]
 AWAY_SECONDS = 3.0  # in which a row is made that waits for the standby
 LOOK_SECONDS = 15.0  # in which it is seen, once its database has begun again
+END_SECONDS = 60.0  # in which a worker ends by SIGTERM, also while its database is away
+
+
+class Act(NamedTuple):
+    """One of the bad days."""
+
+    what: str
+    act: Callable[[], Awaitable[None]]
+    is_alone: bool = False  # all workers are awake, and nothing is done to them meanwhile
 
 
 class Harm:
-    """About once a second ends or stops a worker, or processes of one. In between the databases have their bad days."""
+    """About once a second ends or stops a worker, or processes of one. In between the log has its bad days."""
 
-    def __init__(self, trial: Trial, cluster: Cluster) -> None:
-        self._trial, self._cluster = trial, cluster
+    def __init__(self, trial: Trial, ground: Cluster | File) -> None:
+        self._trial = trial
+        self._acts = self._of_file(ground) if isinstance(ground, File) else self._of_cluster(ground)
         self._resting: set[Worker] = set()
         self._tasks: list[asyncio.Task[None]] = []
 
+    def _of_cluster(self, cluster: Cluster) -> list[Act]:
+        return [Act("databases started again", in_thread(cluster.restart_first)),
+                Act("databases stopped for a while", in_thread(lambda: cluster.pause_first(14))),
+                Act("times connections were dropped", in_thread(cluster.drop_connections)),
+                Act("databases lost", lambda: self.lose_first(cluster), True),
+                Act("times connections were dropped", in_thread(cluster.drop_connections))]
+
+    def _of_file(self, file: File) -> list[Act]:
+        full = Act("times the disk was full", in_thread(lambda: fill_disk(self._trial.workers[0].process.pid, 3)), True)
+        return [full, Act("backups put back", lambda: self.restore(file), True), full]
+
     async def days(self, seconds: float) -> None:
         """All of it, spread over so many seconds."""
-        acts: list[tuple[str, Callable[[], Awaitable[None]]]] = [
-            ("databases started again", self._in_thread(self._cluster.restart_first)),
-            ("databases stopped for a while", self._in_thread(lambda: self._cluster.pause_first(14))),
-            ("times connections were dropped", self._in_thread(self._cluster.drop_connections)),
-            ("databases lost", self.lose_first),
-            ("times connections were dropped", self._in_thread(self._cluster.drop_connections))]
-        begun, count = time.monotonic(), len(acts)
+        begun, acts = time.monotonic(), list(self._acts)
         day: asyncio.Future[None] | None = None
         while (passed := time.monotonic() - begun) < seconds or acts:
-            if acts and passed > seconds * (count - len(acts) + 0.5) / count and (day is None or day.done()):
+            due = seconds * (len(self._acts) - len(acts) + 0.5) / len(self._acts)
+            if acts and passed > due and (day is None or day.done()):
                 if day:
                     day.result()
-                what, act = acts.pop(0)
+                what, act, is_alone = acts.pop(0)
                 self._trial.counts[what] += 1
-                if act == self.lose_first:
-                    await asyncio.gather(*self._tasks)  # all workers are awake for that
+                if is_alone:
+                    await asyncio.gather(*self._tasks)
                     await act()
                 else:
                     day = asyncio.ensure_future(act())
             await self._one(random.choice(self._trial.workers))
             await asyncio.sleep(random.uniform(0, 1))
         await asyncio.gather(*self._tasks, *([day] if day else []))
-
-    def _in_thread(self, act: Callable[[], None]) -> Callable[[], Awaitable[None]]:
-        return lambda: asyncio.to_thread(act)
 
     async def _one(self, worker: Worker) -> None:
         chance = random.random()
@@ -78,45 +94,70 @@ class Harm:
 
     async def _end(self, worker: Worker, how: signal.Signals) -> None:
         worker.process.send_signal(how)
-        if await asyncio.to_thread(worker.process.wait) not in (0, -how):
-            self._trial.wrong.append(f"a worker ended wrongly by {how.name}")
+        try:
+            status: object = await asyncio.to_thread(worker.process.wait, END_SECONDS)
+        except subprocess.TimeoutExpired:
+            status = f"nothing for {END_SECONDS} seconds"
+            worker.process.kill()
+        if status not in (0, -how):
+            self._trial.wrong.append(f"a worker ended wrongly by {how.name}: {status}")
         self._trial.counts[f"workers ended by {how.name}"] += 1
 
-    async def lose_first(self) -> None:
+    async def lose_first(self, cluster: Cluster) -> None:
         """The worst that can be: the second is away, the first restarts, shows what the second hasn't, and is lost. Then
         the second takes over. One worker has done, by reading it, what is lost. Another one made it, and dies. So the
         first has to notice that the row is gone, or has another id, before it makes the next one."""
-        trial, (onlooker, maker, *_) = self._trial, self._trial.workers
-        before: dict[str, str] = {}
-        for name in WITNESSES:
-            first = Asked(name, "begin", RULES, "0")
-            await trial.ask(first)
-            before[name] = first.entry
-        await asyncio.to_thread(self._cluster.lose_second)
-        await asyncio.gather(*(self._post_unanswered(name, before[name], maker) for name in WITNESSES))
+        onlooker, maker, *_ = self._trial.workers
+        before = await self._begin_witnesses()
+        await asyncio.to_thread(cluster.lose_second)
+        for is_done in await asyncio.gather(*(self._do_lost(it, before[it], maker) for it in before)):
+            self._trial.counts["answers without a standby"] += is_done
         await self._end(maker, signal.SIGKILL)
-        await asyncio.to_thread(self._cluster.restart_first)
-        lost = {name: await self._lost_entry(name, before[name], onlooker) for name in WITNESSES}
-        await asyncio.to_thread(self._cluster.lose_first)
+        await asyncio.to_thread(cluster.restart_first)
+        lost = {name: await self._lost_entry(name, before[name], onlooker) for name in before}
+        await asyncio.to_thread(cluster.lose_first)
         await self._is_well(onlooker)
-        for name in WITNESSES:
-            await trial.ask(Asked(name, "next", CARET, before[name]), onlooker)
-            if lost[name]:
-                await trial.ask(Asked(name, "behind-lost", CARET, lost[name] or ""), onlooker)
-                trial.counts["rows that were seen and lost"] += 1
+        await self._go_on(before, lost, onlooker)
         maker.start()
 
-    async def _post_unanswered(self, name: str, seen: str, worker: Worker) -> None:
-        """A request whose row waits for the standby."""
+    async def restore(self, file: File) -> None:
+        """The machine is lost, and a backup put back: rows are gone that clients and readers have."""
+        worker = self._trial.workers[0]
+        before = await self._begin_witnesses()
+        await asyncio.gather(*(self._do_lost(name, before[name], worker) for name in before))
+        lost = {name: await self._lost_entry(name, before[name], worker) for name in before}
+        await self._end(worker, signal.SIGKILL)
+        await asyncio.to_thread(file.restore, list(before))
+        worker.start()
+        await self._go_on(before, lost, worker)
+
+    async def _begin_witnesses(self) -> dict[str, str]:
+        """Documents that only this uses, each with a row."""
+        firsts = [Asked(name, "begin", RULES, "0") for name in WITNESSES]
+        return {it.document: it.entry for it in firsts if await self._trial.ask(it)}
+
+    async def _go_on(self, before: dict[str, str], lost: dict[str, str | None], worker: Worker) -> None:
+        """Makes rows in the place of those that are lost. Then somebody comes who has seen a lost one, and a reader who
+        was cut off behind it. The reader comes only now: as long as there is no row of that number, any look at the log
+        shows that the row is gone."""
+        for name, first in before.items():
+            await self._trial.ask(Asked(name, "next", CARET, first), worker)
+            if it := lost[name]:
+                await self._trial.ask(Asked(name, "behind-lost", CARET, it), worker)
+                self._trial.follow(name, it)
+                self._trial.counts["rows that were seen and lost"] += 1
+
+    async def _do_lost(self, name: str, seen: str, worker: Worker) -> bool:
+        """A request whose row will be lost: whether it is answered."""
         with contextlib.suppress(aiohttp.ClientError, TimeoutError):
             query = {"request": "lost", "seen": seen}
             async with self._trial.session.post(self._trial.url(name, "lines", worker), params=query, data=CARET,
-                                                headers=HEADERS, timeout=aiohttp.ClientTimeout(AWAY_SECONDS)):
-                if self._cluster.first.exists():
-                    self._trial.counts["answers without a standby"] += 1
+                                                headers=HEADERS, timeout=aiohttp.ClientTimeout(AWAY_SECONDS)) as answer:
+                return answer.status == 200
+        return False
 
     async def _lost_entry(self, name: str, before: str, worker: Worker) -> str | None:
-        """The row that is there, and that the standby doesn't have, as the worker does it."""
+        """The row that will be lost, as the worker does it."""
         ends = time.monotonic() + LOOK_SECONDS
         while time.monotonic() < ends:
             entry = await self._trial.entry_of(name, worker)
@@ -132,3 +173,8 @@ class Harm:
             with contextlib.suppress(aiohttp.ClientError, TimeoutError):
                 async with self._trial.session.get(worker.url("health"), timeout=aiohttp.ClientTimeout(3)) as response:
                     well = well + 1 if response.status == 200 else 0
+
+
+def in_thread(act: Callable[[], None]) -> Callable[[], Awaitable[None]]:
+    """What takes a while, beside everything else."""
+    return lambda: asyncio.to_thread(act)

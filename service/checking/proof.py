@@ -9,6 +9,7 @@ from typing import NamedTuple
 from .trial import RULES, Asked, Trial, number_of
 
 CLOSING = b'{"flush":true}\n{"show":"state"}\n'
+ANSWER_SECONDS = 120.0  # in which an epoch is answered again
 
 
 class Row(NamedTuple):
@@ -53,7 +54,8 @@ def _epochs(document: str, entries: list[Row], words: list[str]) -> Iterator[str
     for epoch, some in groupby(entries, attrgetter("epoch")):
         run = list(some)
         lines, replies = b"".join(row.lines for row in run), b"".join(row.replies for row in run)
-        answer = subprocess.run(words, input=lines + CLOSING, stdout=subprocess.PIPE, check=True).stdout
+        answer = subprocess.run(words, input=lines + CLOSING, stdout=subprocess.PIPE, check=True,
+                                timeout=ANSWER_SECONDS).stdout
         if not answer.startswith(replies) or answer.count(b"\n") != replies.count(b"\n") + 2:
             yield f"{document}: epoch {epoch} is answered otherwise by a new process"
         if state is not None and run[0].lines != b'{"load":%b}\n' % state + RULES:

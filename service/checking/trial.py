@@ -9,7 +9,7 @@ import socket
 import subprocess
 import sys
 import time
-from collections import Counter
+from collections import Counter, deque
 from collections.abc import Iterator
 from dataclasses import dataclass, field
 
@@ -27,6 +27,8 @@ COMMANDS = [("make-list", "bullet"), ("make-list", "check"), ("indent", None), (
             ("delete-word", "back"), ("sign", None), ("format-text", "bold"), ("insert-text", "a\U0001f339"),
             ("select-all", None)]
 FAULTS = (aiohttp.ClientError, TimeoutError)
+ANSWER_SECONDS = 120.0  # in which a request is answered at last, whatever goes wrong
+SOME = 50  # requests of a client that it may ask again
 
 
 class Worker:
@@ -85,6 +87,7 @@ class Trial:
     is_over: bool = False
     asked: list[Asked] = field(default_factory=list)
     read: list[tuple[str, list[tuple[str, bytes]]]] = field(default_factory=list)
+    readers: list[asyncio.Task[None]] = field(default_factory=list)
     wrong: list[str] = field(default_factory=list)
     counts: Counter[str] = field(default_factory=Counter)
 
@@ -92,15 +95,21 @@ class Trial:
         """An address of a document, at any worker."""
         return (worker or random.choice(self.workers)).url(f"documents/{document}/{what}")
 
-    async def ask(self, it: Asked, worker: Worker | None = None) -> None:
-        """Asks until there is an answer, of whichever worker. Now and then the answer isn't waited for."""
+    async def ask(self, it: Asked, worker: Worker | None = None) -> bool:
+        """Asks until there is an answer, of whichever worker. Now and then the answer isn't waited for. Says whether there
+        was one: without one for long the service is wrong, and whoever asks does something else."""
+        ends, last = time.monotonic() + ANSWER_SECONDS, "nothing"
         while not it.answered:
+            if time.monotonic() > ends:
+                self.wrong.append(f"{it.document} {it.request}: not answered, at last by {last}")
+                return False
             limit = random.uniform(0, 0.1) if random.random() < 0.01 else 30
             query = {"request": it.request, "seen": it.seen, "exact": str(int(it.is_exact))}
             try:
                 async with self.session.post(self.url(it.document, "lines", worker), params=query, data=it.lines,
                                              headers=HEADERS, timeout=aiohttp.ClientTimeout(limit)) as response:
                     replies = await response.read()
+                last = f"{response.status} {replies[:100]!r}"
                 self.counts[f"answers {response.status}"] += 1
                 if response.status == 200:
                     it.answered, it.entry, it.replies = time.monotonic(), response.headers["Entry"], replies
@@ -109,10 +118,12 @@ class Trial:
                     it.seen = await self.entry_of(it.document) or it.seen
                     continue
             except FAULTS as error:
-                self.counts[f"times {type(error).__name__}"] += 1
+                last = type(error).__name__
+                self.counts[f"times {last}"] += 1
             if not it.answered:
                 await asyncio.sleep(random.uniform(0, 0.1))
         self.asked.append(it)
+        return True
 
     async def entry_of(self, document: str, worker: Worker | None = None) -> str | None:
         """The last entry, as a worker tells it."""
@@ -123,8 +134,9 @@ class Trial:
         return None
 
     async def client(self, name: str) -> None:
-        """Edits one document after the other. Now and then it asks the same twice, or for a new epoch."""
+        """Edits one document after the other. Now and then it asks again for what was done, or for a new epoch."""
         seen: dict[str, str] = {}
+        done: deque[Asked] = deque(maxlen=SOME)
         for turn in range(1 << 30):
             document = random.choice(self.documents)
             for at, lines in enumerate(writing()):
@@ -132,31 +144,41 @@ class Trial:
                     return
                 it = Asked(document, f"{name}-{turn}-{at}", lines, seen.get(document) or "0")
                 it.is_exact = random.random() < 0.1
-                await self.ask(it)
+                if not await self.ask(it):
+                    return
                 seen[document] = it.entry
-                if random.random() < 0.02:
-                    again = Asked(document, it.request, lines, it.seen, it.sent)
-                    await self.ask(again)
-                    if (again.entry, again.replies) != (it.entry, it.replies):
-                        self.wrong.append(f"{document} {it.request} is answered in two ways")
-                    self.asked.remove(again)
+                done.append(it)
+                if random.random() < 0.03:
+                    old = random.choice([it, *done])
+                    await self._ask_again(old, seen[old.document])
             if random.random() < 0.15:
                 with contextlib.suppress(*FAULTS):
                     async with self.session.put(self.url(document, "epoch"), params={"seen": seen[document]}):
                         self.counts["epochs asked for"] += 1
 
-    async def reader(self) -> None:
-        """Follows a document, and comes again when it is cut off."""
-        document, entries = random.choice(self.documents), list[tuple[str, bytes]]()
+    async def _ask_again(self, it: Asked, seen: str) -> None:
+        """Asks for what was done, as somebody does who didn't get the answer."""
+        again = Asked(it.document, it.request, it.lines, seen, it.sent)
+        if await self.ask(again):
+            self.asked.remove(again)
+            if (again.entry, again.replies) != (it.entry, it.replies):
+                self.wrong.append(f"{it.document} {it.request} is answered in two ways")
+
+    def follow(self, document: str, last: str = "0") -> None:
+        """A reader of a document joins, which may have had a row."""
+        entries = list[tuple[str, bytes]]()
         self.read.append((document, entries))
-        last = "0"
+        self.readers.append(asyncio.create_task(self._reader(document, entries, last)))
+
+    async def _reader(self, document: str, entries: list[tuple[str, bytes]], last: str) -> None:
+        """Follows a document, and comes again when it is cut off."""
         while True:
             with contextlib.suppress(*FAULTS):
                 headers = {"Last-Event-ID": last}
                 url = self.url(document, "events")
                 async with self.session.get(url, headers=headers, timeout=aiohttp.ClientTimeout(None)) as response:
                     last = await self._follow(response, document, entries, last)
-            last = entries[-1][0] if entries else "0"
+            last = entries[-1][0] if entries else last
             self.counts["times a reader was cut off"] += 1
             await asyncio.sleep(0.1)
 

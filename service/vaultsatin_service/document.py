@@ -8,7 +8,7 @@ from dataclasses import dataclass
 
 from .entry import START, Entry, Place, registering
 from .errors import Behind, NoDocument, NotNow, Refusal, TooMuch, Unseen
-from .limits import MOST_INPUT, MOST_RULES, MOST_SECONDS
+from .limits import MOST_INPUT, MOST_RULES, MOST_SECONDS, RECENT_REQUESTS
 from .log import PAGE, Log, Row
 from .metrics import Metrics
 from .program import Program
@@ -17,7 +17,6 @@ from .run import FLUSH, Run
 LOG = logging.getLogger("service.document")
 NO_KEYS = b'{"refused":{"cause":"TooLarge","code":11,"detail":["key",'
 REFUSED_LOAD = re.compile(rb'\{"refused":\{"cause":"(?!EmptyState)')
-RECENT = 256  # requests that are remembered
 
 
 @dataclass(frozen=True)
@@ -51,7 +50,7 @@ class Document:
         self.lock = asyncio.Lock()
         self.users = 0  # who have the lock, or wait for it
         self.used_at = time.monotonic()
-        self._recent: deque[str] = deque(maxlen=RECENT)  # requests that were done here
+        self._recent: deque[str] = deque(maxlen=RECENT_REQUESTS)  # requests that were done here
 
     def end(self) -> None:
         """Ends the process."""

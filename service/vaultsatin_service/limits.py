@@ -8,6 +8,8 @@ MOST_INPUT = 1 << 24  # bytes of all lines of a run: the program ends where it r
 MOST_EPOCH_REPLIES = 1 << 26  # bytes
 MOST_DEATHS = 3  # of a process by the same request
 MOST_NAME = 200  # characters of a user's name
+RECENT_REQUESTS = 256  # of a document, that are remembered as done
+RECENT_ROWS = 256  # of a run, that are remembered
 
 PIECE_SECONDS = 10.0  # without a byte of a reply
 REQUEST_SECONDS = 30.0  # with whatever is tried again

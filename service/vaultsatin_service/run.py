@@ -2,14 +2,13 @@
 from collections import deque
 
 from .entry import START, Entry, Place, registering
-from .limits import MOST_EPOCH_REPLIES, MOST_SECONDS
+from .limits import MOST_EPOCH_REPLIES, MOST_SECONDS, RECENT_ROWS
 from .metrics import Metrics
 from .process import Process
 from .program import Program
 
 STATE, STATE_HEAD = b'{"show":"state"}\n', b'{"state":'
 FLUSH = b'{"flush":true}\n'
-RECENT = 256  # rows that are remembered
 
 
 class Run:
@@ -21,7 +20,7 @@ class Run:
         self.is_kept = True  # whether the log has the state
         self.rules = b""
         self.seconds = 0.0  # of processor time, of the epoch
-        self._rows: deque[Place] = deque(maxlen=RECENT)
+        self._rows: deque[Place] = deque(maxlen=RECENT_ROWS)
         self._lines, self._replies = 0, 0  # bytes of the epoch, without its first row
 
     @classmethod
