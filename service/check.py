@@ -31,6 +31,7 @@ from checking.trial import RULES, Asked, Trial, Worker
 
 COLUMNS = "document, number, id, epoch, request, lines, replies"
 PROGRAM, STAND_IN = SERVICE.parent / "crates/lexical/out/lexical", SERVICE / "checking/stand_in.py"
+WRONG = re.compile('"trace"|another version')  # in what a worker tells: all have one version
 SETTLE_SECONDS = 20  # for readers, at the end
 MOST_SECONDS = 400  # beside the seconds with faults: whatever is wrong, the check ends
 
@@ -96,7 +97,7 @@ async def check(words: argparse.Namespace, folder: pathlib.Path) -> list[str]:
                 worker.process.wait()
                 text = worker.log.read_text(encoding="utf-8")
                 trial.counts += Counter(f"times again: {it}" for it in re.findall('"again".*"kind": "([A-Za-z]+)', text))
-                trial.wrong += [f"a worker's fault: {it[:600]}" for it in text.splitlines() if '"trace"' in it][:1]
+                trial.wrong += [f"a worker's fault: {it[:600]}" for it in text.splitlines() if WRONG.search(it)][:1]
             ground.stop()
     epochs = {(row.document, row.epoch) for row in rows}
     trial.counts.update({"requests": len(trial.asked), "rows": len(rows), "epochs": len(epochs)})

@@ -28,6 +28,7 @@ COMMANDS = [("make-list", "bullet"), ("make-list", "check"), ("indent", None), (
             ("select-all", None)]
 FAULTS = (aiohttp.ClientError, TimeoutError)
 ANSWER_SECONDS = 120.0  # in which a request is answered at last, whatever goes wrong
+LATER_SECONDS = 5.0  # the same, once one wasn't
 SOME = 50  # requests of a client that it may ask again
 
 
@@ -88,6 +89,7 @@ class Trial:
     asked: list[Asked] = field(default_factory=list)
     read: list[tuple[str, list[tuple[str, bytes]]]] = field(default_factory=list)
     readers: list[asyncio.Task[None]] = field(default_factory=list)
+    patience: float = ANSWER_SECONDS
     wrong: list[str] = field(default_factory=list)
     counts: Counter[str] = field(default_factory=Counter)
 
@@ -97,10 +99,11 @@ class Trial:
 
     async def ask(self, it: Asked, worker: Worker | None = None) -> bool:
         """Asks until there is an answer, of whichever worker. Now and then the answer isn't waited for. Says whether there
-        was one: without one for long the service is wrong, and whoever asks does something else."""
-        ends, last = time.monotonic() + ANSWER_SECONDS, "nothing"
+        was one: without one for long the service is wrong, and nobody waits so long again."""
+        begun, last = time.monotonic(), "nothing"
         while not it.answered:
-            if time.monotonic() > ends:
+            if time.monotonic() > begun + self.patience:
+                self.patience = LATER_SECONDS
                 self.wrong.append(f"{it.document} {it.request}: not answered, at last by {last}")
                 return False
             limit = random.uniform(0, 0.1) if random.random() < 0.01 else 30
