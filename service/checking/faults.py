@@ -31,6 +31,7 @@ LIMITS = {  # shorter ones, so that pauses pass them, and what is asked again is
     "RECENT_ROWS = 256": "RECENT_ROWS = 8",
     "PIECE_SECONDS = 10.0": "PIECE_SECONDS = 4.0",
     "REQUEST_SECONDS = 30.0": "REQUEST_SECONDS = 12.0",
+    "STATEMENT_SECONDS = 30.0": "STATEMENT_SECONDS = 12.0",
     "QUIET_SECONDS = 5.0": "QUIET_SECONDS = 600.0",  # a state that can't be kept ends the process, which hides a fault
 }
 

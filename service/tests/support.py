@@ -4,7 +4,9 @@ import importlib.util
 import os
 import pathlib
 import shutil
+import signal
 import subprocess
+import sys
 import tempfile
 import unittest
 
@@ -24,6 +26,11 @@ HELLO = b'{"update":[{"append":"Hello"}]}\n'
 RULE = b'{"rule":{"do":[{"set":{"text":"\xc2\xa9"}}],"if":[{"text":"(c)"}],"on":"text"}}\n'
 
 needs_node = unittest.skipUnless(shutil.which("node"), "there is no node")
+
+
+def stand_in() -> Program:
+    """What stands in for the program, and begins at once."""
+    return Program([sys.executable, "-IS", str(HERE.parent / "checking/stand_in.py")], "stand-in")
 
 
 def other_version() -> Program:
@@ -90,6 +97,12 @@ class Database:
         """What `psql` answers."""
         words = ["psql", "-qtAX", self.address, "-c", statement]
         return subprocess.run(words, check=True, cwd="/", capture_output=True, text=True).stdout.strip()
+
+    def send(self, what: signal.Signals) -> None:
+        """Sends a signal to all its processes."""
+        children = pathlib.Path(f"/proc/{self.pid}/task/{self.pid}/children").read_text(encoding="ascii")
+        for process in (self.pid, *map(int, children.split())):
+            os.kill(process, what)
 
     def stop(self) -> None:
         """Ends it."""

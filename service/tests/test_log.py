@@ -1,9 +1,12 @@
 """The log, over SQLite, and over PostgreSQL where that is there."""
+import asyncio
 import pathlib
+import signal
 import tempfile
 import time
 import unittest
 import uuid
+from collections.abc import Awaitable
 from unittest import mock
 
 from vaultsatin_service.entry import START, Entry, Place
@@ -13,6 +16,11 @@ from vaultsatin_service.sqlite import Sqlite
 from vaultsatin_service.store import Store
 
 from .support import POSTGRES, Database, InFolder
+
+async def wait_for(it: Awaitable[None]) -> None:
+    """Anything that can be awaited, as a coroutine."""
+    await it
+
 
 ELSEWHERE = uuid.UUID(int=7).hex
 
@@ -69,6 +77,24 @@ class OverSqlite(InFolder):
             with mock.patch("vaultsatin_service.log.PAGE", page):
                 self.assertEqual(len(await self.log.behind("plan", START)), min(page, 8))
                 self.assertEqual([entry.number for entry in await self.log.epoch("plan")], list(range(1, 9)))
+
+    async def test_large_rows_are_read_in_pages(self) -> None:
+        place = START
+        for number in range(8):
+            place = (await self.add(place, 1, f"r{number}")).place
+        for most, count in ((1, 1), (6, 1), (7, 2), (12, 2), (48, 8), (49, 8)):  # a row has six bytes
+            with mock.patch("vaultsatin_service.log.PAGE_BYTES", most):
+                self.assertEqual(len(await self.log.behind("plan", START)), count)
+                self.assertEqual([entry.number for entry in await self.log.epoch("plan")], list(range(1, 9)))
+
+    async def test_statement_has_an_end(self) -> None:
+        with mock.patch.object(self.store, "ask", lambda *_, **__: asyncio.Event().wait()), \
+                mock.patch("vaultsatin_service.log.STATEMENT_SECONDS", 0.05), self.assertRaises(Away):
+            await self.log.behind("plan", START)
+
+    async def test_last_rows_are_told_who_looks(self) -> None:
+        first = await self.add(START, 1, "a")
+        self.assertEqual(await self.log.lasts(["plan", "other"]), [("plan", first.row)])
 
     async def test_state_is_kept_with_the_last_row(self) -> None:
         first = await self.add(START, 1, "a")
@@ -140,6 +166,30 @@ class OverPostgres(OverSqlite):
         await store.ask("delete from entry returning 1")
         return store
 
-    async def test_last_rows_are_told_who_looks(self) -> None:
-        first = await self.add(START, 1, "a")
-        self.assertEqual(await self.store.lasts(["plan", "other"]), [("plan", first.row)])
+    async def test_stopped_database_is_away_and_stops_nobody(self) -> None:
+        await self.add(START, 1, "a")
+        turns, ends = 0, time.monotonic() + 0.5
+        self.database.send(signal.SIGSTOP)
+        try:
+            with mock.patch("vaultsatin_service.log.STATEMENT_SECONDS", 0.5):
+                asking = asyncio.create_task(self.log.behind("plan", START))
+                while time.monotonic() < ends + 0.3:
+                    await asyncio.sleep(0.01)
+                    turns += 1
+                async with asyncio.timeout(5):
+                    with self.assertRaises(Away):
+                        await asking
+        finally:
+            self.database.send(signal.SIGCONT)
+        self.assertGreater(turns, 10)
+        self.assertEqual(len(await self.log.behind("plan", START)), 1)
+
+    async def test_who_listens_begins_anew_and_says_so(self) -> None:
+        heard, begun = asyncio.Queue[str](), asyncio.Queue[int]()
+        with mock.patch("vaultsatin_service.postgres.LISTEN_SECONDS", 3.0):
+            async with asyncio.timeout(30):
+                listening = asyncio.create_task(wait_for(self.store.listen(heard.put_nowait, lambda: begun.put_nowait(1))))
+                await begun.get()
+                await self.log.tell(["plan"])
+                self.assertEqual(await heard.get(), "plan")
+                await listening  # it ends by itself

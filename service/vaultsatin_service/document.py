@@ -9,7 +9,7 @@ from dataclasses import dataclass
 from .entry import START, Entry, Place, registering
 from .errors import Behind, NoDocument, NotNow, Refusal, TooMuch, Unseen
 from .limits import MOST_INPUT, MOST_RULES, MOST_SECONDS, RECENT_REQUESTS
-from .log import PAGE, Log, Row
+from .log import Log, Row, is_all
 from .metrics import Metrics
 from .program import Program
 from .run import FLUSH, Run
@@ -114,7 +114,7 @@ class Document:
                 raise NoDocument("there is no such document")
             if behind and not await self.run.repeat(behind):
                 return await self._begin_otherwise()
-            if len(behind) < PAGE:
+            if is_all(behind):
                 return self.run
 
     async def _begin(self) -> Run:

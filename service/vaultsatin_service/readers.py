@@ -6,12 +6,13 @@ from collections.abc import AsyncIterator
 from weakref import WeakValueDictionary
 
 from .entry import Entry, Place
-from .errors import Away
+from .errors import Away, NotNow
+from .limits import MOST_READERS
 from .log import Log
 
 LOG = logging.getLogger("service.readers")
 TELL_SECONDS = 0.01  # in which news is gathered
-LISTEN_SECONDS = 1.0  # until somebody listens again
+AGAIN_SECONDS = 1.0  # until somebody listens again
 
 
 class Topic:
@@ -54,13 +55,21 @@ class Readers:
     def end(self) -> None:
         """Lets all readers go: they come again, to another worker."""
         self._is_over = True
+        self._wake_all()
+
+    def _wake_all(self) -> None:
         for topic in list(self._topics.values()):
             topic.wake()
 
-    async def follow(self, document: str, place: Place) -> AsyncIterator[Entry | None]:
+    def follow(self, document: str, place: Place) -> AsyncIterator[Entry | None]:
         """The rows behind a place, as they come; None now and then, where there are none. Who is at a place that the
         log doesn't have, or before the last epoch, gets the row by which that begins next."""
-        topic = self._topics.setdefault(document, Topic(self._log, document))
+        if self.count >= MOST_READERS:
+            raise NotNow("there are too many readers here now")
+        return self._follow(self._topics.setdefault(document, Topic(self._log, document)), place)
+
+    async def _follow(self, topic: Topic, place: Place) -> AsyncIterator[Entry | None]:
+        """Without news a reader doesn't ask: `look` does that for all."""
         self.count += 1
         try:
             while not self._is_over:
@@ -69,12 +78,11 @@ class Readers:
                 for entry in entries:
                     yield entry
                     place = entry.place
-                if entries:
-                    continue
-                with contextlib.suppress(TimeoutError):
-                    async with asyncio.timeout(self._look_seconds):
-                        await news.wait()
-                yield None
+                while not entries and not news.is_set():
+                    with contextlib.suppress(TimeoutError):
+                        async with asyncio.timeout(self._look_seconds):
+                            await news.wait()
+                    yield None
         finally:
             self.count -= 1
 
@@ -86,16 +94,16 @@ class Readers:
             while not self._untold.empty():
                 names.add(self._untold.get_nowait())
             with contextlib.suppress(Away):  # workers also look by themselves
-                await self._log.store.tell(list(names))
+                await self._log.tell(list(names))
 
     async def listen(self) -> None:
-        """Hears what workers tell."""
+        """Hears what workers tell. Nobody heard what was told before."""
         while True:
             try:
-                await self._log.store.listen(self._hear)
+                await self._log.store.listen(self._hear, self._wake_all)
             except Away as error:
                 LOG.warning("no news", extra={"why": str(error).partition("\n")[0]})
-            await asyncio.sleep(LISTEN_SECONDS)
+            await asyncio.sleep(AGAIN_SECONDS)
 
     def _hear(self, document: str) -> None:
         if topic := self._topics.get(document):
@@ -106,7 +114,7 @@ class Readers:
         while True:
             await asyncio.sleep(self._look_seconds)
             with contextlib.suppress(Away):
-                for document, last in await self._log.store.lasts(list(self._topics)):
+                for document, last in await self._log.lasts(list(self._topics)):
                     topic = self._topics.get(document)
                     if topic and topic.last != last:
                         topic.last = last

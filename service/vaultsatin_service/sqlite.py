@@ -7,7 +7,7 @@ from concurrent.futures import ThreadPoolExecutor
 from typing import TypeVar
 
 from .errors import Away, Behind
-from .statements import SCHEMA
+from .statements import LAST, SCHEMA
 from .store import Hear, Row, Value
 
 Result = TypeVar("Result")
@@ -63,11 +63,13 @@ class Sqlite:
         for document in documents:
             self._hear(document)
 
-    async def lasts(self, _: Sequence[str]) -> list[tuple[str, str]]:
-        """Nobody else writes."""
-        return []
+    async def lasts(self, documents: Sequence[str]) -> list[tuple[str, str]]:
+        """The id of each document's last row. A row isn't told if nobody waited for it any more."""
+        rows = {document: await self.ask(LAST, document=document) for document in documents}
+        return [(document, row[0][0]) for document, row in rows.items() if row]
 
-    async def listen(self, hear: Hear) -> None:
+    async def listen(self, hear: Hear, begin: Callable[[], None]) -> None:
         """Passes on what this worker tells itself."""
         self._hear = hear
+        begin()
         await asyncio.Event().wait()

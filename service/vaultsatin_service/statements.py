@@ -4,13 +4,18 @@ import pathlib
 SCHEMA = (pathlib.Path(__file__).parent / "schema.sql").read_text(encoding="utf-8")
 
 # SQLite 3.40 answers `state is not null` wrongly behind `returning`.
-ROW = "number, epoch, id, lines, replies, version, coalesce(length(state), -1) >= 0"
+ROW = "number, epoch, id, lines, replies, version, coalesce(length(state), -1) >= 0 as is_kept"
+NAMES = "number, epoch, id, lines, replies, version, is_kept"
 
 # The rows that somebody at a row hasn't had: those after it, or all of the last epoch, if that row isn't in the log.
-BEHIND = f"""select {ROW} from entry where document = :document
+# They are so many that those before the last of them have fewer bytes than a page.
+BEHIND = f"""with behind as (select {ROW}, length(lines) + length(replies) as size from entry
+    where document = :document
     and number >= (select epoch from entry where document = :document order by number desc limit 1)
     and number > coalesce((select number from entry where document = :document and number = :number and id = :id), 0)
-    order by number limit :page"""
+    order by number limit :page)
+    select {NAMES} from (select *, sum(size) over (order by number) - size as before from behind) as summed
+    where before < :bytes order by number"""
 
 # The request, if it was done. It is a write, so it waits until the row is wherever a commit has to be: a database that
 # was started again shows rows that its standby may not have.
@@ -23,6 +28,8 @@ APPEND = """insert into entry (document, number, id, epoch, request, author, lin
     returning id"""
 
 IS_THERE = "select 1 from entry where document = :document and number = :number and id = :id"
+
+LAST = "select id from entry where document = :document order by number desc limit 1"
 
 # The state after a row, in the place of those after earlier ones.
 KEEP = """update entry set state = case when number = :number then :state end

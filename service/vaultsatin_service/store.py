@@ -24,7 +24,7 @@ class Store(Protocol):
         """Tells all workers, this one too, that the documents have new rows. It may be lost."""
 
     async def lasts(self, documents: Sequence[str]) -> list[tuple[str, str]]:
-        """The id of each document's last row, for whoever wasn't told. Empty where nobody else writes."""
+        """The id of each document's last row, for whoever wasn't told."""
 
-    def listen(self, hear: Hear) -> Awaitable[None]:
-        """Passes on what workers tell, for as long as it is awaited."""
+    def listen(self, hear: Hear, begin: Callable[[], None]) -> Awaitable[None]:
+        """Passes on what workers tell, from when it says that it begins, for as long as it is awaited."""
