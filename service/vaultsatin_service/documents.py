@@ -1,6 +1,5 @@
 """The documents in use, least recently used first, and how long something is tried."""
 import asyncio
-import contextlib
 import logging
 import random
 import time
@@ -9,20 +8,22 @@ from collections.abc import Awaitable, Callable
 from .document import Document, Setting
 from .entry import Entry
 from .errors import Ended, Late, NotNow, Refusal, TooMuch, WorthAnotherTry
-from .limits import MOST_DEATHS, QUIET_SECONDS, REQUEST_SECONDS
+from .limits import CLOSE_SECONDS, MOST_DEATHS, MOST_WAITING, QUIET_SECONDS, REQUEST_SECONDS
 
 LOG = logging.getLogger("service.documents")
 KEEP_SECONDS = 5.0  # for a state to be kept
-AT_ONCE = 8  # states that are kept side by side at the end
+AT_ONCE = 8  # states that are kept side by side
 
 
 class Documents:
-    """All documents that have a process here, or whose requests wait for one."""
+    """All documents that have a process here, or whose requests wait for one. They are never more than `most`."""
 
     def __init__(self, setting: Setting, most: int, idle_seconds: float) -> None:
         self.setting, self.most, self.idle_seconds = setting, most, idle_seconds
         self._documents: dict[str, Document] = {}
-        self._closing: set[asyncio.Task[None]] = set()
+        self._tasks: set[asyncio.Task[None]] = set()
+        self._turns = asyncio.Semaphore(AT_ONCE)
+        self._left = asyncio.Event()  # set when there is room for another document
 
     @property
     def count(self) -> int:
@@ -31,18 +32,32 @@ class Documents:
 
     async def use(self, name: str, act: Callable[[Document], Awaitable[Entry]]) -> Entry:
         """Does something with a document, one request after the other."""
-        document = self._documents.pop(name, None) or Document(name, self.setting)
-        self._documents[name] = document
-        document.users += 1
+        document = None
         try:
-            async with asyncio.timeout(REQUEST_SECONDS), document.lock:
-                return await self._insist(document, act)
+            async with asyncio.timeout(REQUEST_SECONDS):
+                document = await self._enter(name)
+                async with document.lock:
+                    return await self._insist(document, act)
         except TimeoutError:
             raise Late("it takes too long; nothing is done twice if it is asked again") from None
         finally:
-            document.used_at = time.monotonic()
-            self._leave(document)
+            if document:
+                document.used_at = time.monotonic()
+                self._leave(document)
+                self._close_excess()
+
+    async def _enter(self, name: str) -> Document:
+        """The document, with one more user, once there is room for it."""
+        while name not in self._documents and len(self._documents) >= self.most:
+            self._left.clear()
             self._close_excess()
+            await self._left.wait()
+        document = self._documents.pop(name, None) or Document(name, self.setting)
+        self._documents[name] = document  # as the last one
+        if document.users >= MOST_WAITING:
+            raise NotNow("too many requests wait for this document")
+        document.users += 1
+        return document
 
     async def _insist(self, document: Document, act: Callable[[Document], Awaitable[Entry]]) -> Entry:
         """Tries again with a new process where that may help."""
@@ -72,33 +87,37 @@ class Documents:
         document.users -= 1
         if not document.users and not document.run and self._documents.get(document.name) is document:
             del self._documents[document.name]
+            self._left.set()
 
     def _close_excess(self) -> None:
-        """Closes those that weren't used for longest, so that there is room for others."""
+        """Closes those that weren't used for longest, so that there is room for another one."""
         idle = [document for document in self._documents.values() if not document.users]
-        for document in idle[:max(0, len(self._documents) - self.most)]:
-            self._close_later(document)
+        for document in idle[:max(0, len(self._documents) + 1 - self.most)]:
+            self._later(document, self._close)
 
-    def _close_later(self, document: Document) -> None:
-        document.users += 1  # so that it isn't closed twice
-        task = asyncio.create_task(self._close(document))
-        self._closing.add(task)
-        task.add_done_callback(self._closing.discard)
+    def _later(self, document: Document, act: Callable[[Document], Awaitable[None]]) -> None:
+        document.users += 1  # so that nothing else is begun with it
+        task = asyncio.create_task(self._in_turn(document, act))
+        self._tasks.add(task)
+        task.add_done_callback(self._tasks.discard)
 
-    async def _close(self, document: Document) -> None:
+    async def _in_turn(self, document: Document, act: Callable[[Document], Awaitable[None]]) -> None:
         try:
-            async with document.lock:
-                await self._keep(document)
-                document.end()
+            async with self._turns, document.lock:
+                await act(document)
         finally:
             self._leave(document)
+
+    async def _close(self, document: Document) -> None:
+        await self._keep(document)
+        document.end()
 
     async def _keep(self, document: Document) -> None:
         """Keeps the state. Where that fails, the process is ended: its place in the log may be lost."""
         try:
             async with asyncio.timeout(KEEP_SECONDS):
                 await document.keep()
-        except (TimeoutError, Refusal, WorthAnotherTry) as error:
+        except (TimeoutError, Refusal, RuntimeError, WorthAnotherTry) as error:
             LOG.info("not kept", extra={"document": document.name, "why": str(error).partition("\n")[0]})
             document.end()
         except BaseException:
@@ -112,22 +131,19 @@ class Documents:
             now = time.monotonic()
             for document in [it for it in self._documents.values() if not it.users]:
                 if now - document.used_at > self.idle_seconds:
-                    self._close_later(document)
+                    self._later(document, self._close)
                 elif now - document.used_at > QUIET_SECONDS and document.run and not document.run.is_kept:
-                    async with document.lock:
-                        await self._keep(document)
+                    self._later(document, self._keep)
 
     async def close(self) -> None:
-        """Keeps all states, and ends all processes."""
-        turn = asyncio.Semaphore(AT_ONCE)
-
-        async def close(document: Document) -> None:
-            async with turn:
-                await self._close(document)
-
-        for document in (documents := list(self._documents.values())):
-            document.users += 1
-        await asyncio.gather(*map(close, documents), return_exceptions=True)
+        """Keeps all states, and ends all processes. Those that take too long aren't kept."""
+        documents = list(self._documents.values())
         for document in documents:
-            with contextlib.suppress(Exception):
-                document.end()
+            self._later(document, self._close)
+        if self._tasks:
+            _, slow = await asyncio.wait(self._tasks, timeout=CLOSE_SECONDS)
+            for task in slow:
+                task.cancel()
+            await asyncio.gather(*slow, return_exceptions=True)
+        for document in documents:
+            document.end()
