@@ -1,11 +1,15 @@
 """The whole worker, over HTTP: addresses, statuses and headers."""
 import asyncio
+import gzip
 import re
+from collections.abc import AsyncIterator
+from unittest import mock
 
 from aiohttp import ClientResponse
 from aiohttp.test_utils import TestClient, TestServer
 
 from vaultsatin_service.application import Worker
+from vaultsatin_service.bounds import Room
 from vaultsatin_service.program import module_by_node
 from vaultsatin_service.words import words_of
 
@@ -69,9 +73,37 @@ class OverHttp(InFolder):
             (403, await self.post("b", seen, X_Read_Only="1")), (400, await self.post("b", seen, X_User="a" * 201)),
             (413, await self.post("b", seen, b" " * (1 << 22))), (404, await self.client.get("/documents/other/state")),
             (404, await self.client.get("/documents/Plan/state")), (405, await self.client.post("/documents/plan/state")),
-            (400, await self.client.get("/documents/plan/events?after=1"))]
+            (400, await self.client.get("/documents/plan/events?after=1")),
+            (400, await self.client.post("/documents/plan/lines?request=b&exact=true", data=HELLO, headers=HEADERS)),
+            (415, await self.post("b", seen, gzip.compress(HELLO), Content_Encoding="gzip"))]
         self.assertEqual([status for status, _ in answers], [answer.status for _, answer in answers])
         self.assertEqual((await self.post("b", seen, X_Read_Only="0")).status, 200)
+
+    async def test_headers_that_a_client_adds_give_it_nothing(self) -> None:
+        url, query = "/documents/plan/lines", {"request": "a", "seen": "0"}
+        for status, name in ((403, "X-Read-Only"), (400, "X-User")):
+            twice = [*HEADERS.items(), (name, "0"), (name, "ann")]
+            async with self.client.post(url, params=query, data=HELLO, headers=twice) as response:
+                self.assertEqual(response.status, status)
+
+    async def test_body_has_to_come(self) -> None:
+        async def slow() -> AsyncIterator[bytes]:
+            yield b'{"upd'
+            await asyncio.sleep(1)
+
+        with mock.patch("vaultsatin_service.handlers.BODY_SECONDS", 0.1):
+            async with self.client.post("/documents/plan/lines", params={"request": "a", "seen": "0"}, data=slow(),
+                                        headers=HEADERS) as response:
+                self.assertEqual(response.status, 408)
+
+    async def test_bodies_are_limited_together(self) -> None:
+        with mock.patch.object(Room, "taken", Room(10, "bytes of requests").taken):
+            self.assertEqual((await self.post("a", "0")).status, 503)
+
+    async def test_compressed_body_stays_so(self) -> None:
+        body = gzip.compress(b"a" * (1 << 24))
+        response = await self.post("a", "0", body, Content_Encoding="identity")
+        self.assertEqual((response.status, b"BadLine" in await response.read()), (200, True))
 
     async def test_user_is_in_the_row(self) -> None:
         await self.post("a", "0", X_User="Ann Lee")
@@ -108,7 +140,7 @@ class OverHttp(InFolder):
         self.assertEqual((await self.client.get("/page/../worker.sqlite")).status, 404)
 
     async def test_documents_in_excess_are_closed_and_kept(self) -> None:
-        self.worker.documents.most = 0
+        self.worker.documents.most = 1
         first = await self.post("a", "0")
         for _ in range(100):
             if not self.worker.documents.count:

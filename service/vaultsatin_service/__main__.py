@@ -8,10 +8,12 @@ from aiohttp import web
 
 from .application import Worker, program_of
 from .errors import Away
+from .limits import TAKE_SECONDS
 from .logging_lines import log_to_stderr
 from .words import words_of
 
 SHUTDOWN_SECONDS = 10  # for requests under way
+USER_TIMEOUT = 18  # TCP_USER_TIMEOUT of linux/tcp.h, which also ends connections whose other side takes nothing
 LOG = logging.getLogger("service")
 
 
@@ -19,6 +21,7 @@ def listening(host: str, port: int) -> socket.socket:
     """The socket, and a log line that says where it is."""
     family = socket.AF_INET6 if ":" in host else socket.AF_INET
     opened = socket.create_server((host, port), family=family, backlog=128)
+    opened.setsockopt(socket.IPPROTO_TCP, USER_TIMEOUT, 1000 * TAKE_SECONDS)  # of its connections
     place = f"[{host}]" if ":" in host else host
     LOG.info("listening", extra={"address": f"http://{place}:{opened.getsockname()[1]}"})
     return opened

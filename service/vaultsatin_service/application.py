@@ -56,7 +56,8 @@ class Worker:
 
     def application(self) -> web.Application:
         """The application, with its addresses."""
-        application = web.Application(client_max_size=MOST_BODY, middlewares=[self._answered])
+        application = web.Application(client_max_size=MOST_BODY, middlewares=[self._answered],
+                                      handler_args={"auto_decompress": False})  # no limit is on what comes of that
         handlers = Handlers(self.words, self.documents, self.readers, self.metrics)
         application.add_routes([
             web.post(DOCUMENT + "/lines", handlers.post_lines), web.put(DOCUMENT + "/epoch", handlers.put_epoch),

@@ -1,15 +1,17 @@
 """The requests of HTTP, and their answers."""
+import asyncio
 import json
 import re
 from collections.abc import Awaitable, Callable
 
 from aiohttp import web
 
+from .bounds import Room
 from .document import Asked, Document
 from .documents import Documents
 from .entry import Entry, Place
 from .errors import Away, Refusal
-from .limits import MOST_NAME
+from .limits import BODY_SECONDS, MOST_BODIES, MOST_BODY, MOST_NAME
 from .metrics import Metrics
 from .readers import Readers
 from .run import STATE, STATE_HEAD
@@ -32,21 +34,32 @@ class NotLines(Refusal):
     status = 415
 
 
+class Slow(Refusal):
+    """The body doesn't come."""
+
+    status = 408
+
+
 class Handlers:
     """What is done at each address."""
 
     def __init__(self, words: Words, documents: Documents, readers: Readers, metrics: Metrics) -> None:
         self._words, self._documents, self._readers, self._metrics = words, documents, readers, metrics
+        self._bodies = Room(MOST_BODIES, "bytes of requests")
 
     async def post_lines(self, request: web.Request) -> web.Response:
         """Does lines, once."""
         self._may_write(request)
         if request.content_type != LINES:  # which no page of another site may send
             raise NotLines(f"send {LINES}")
-        lines = (await request.read()).removesuffix(b"\n") + b"\n"
-        asked = Asked(_name_of(request), lines, Place.read(request.query.get("seen", "")),
-                      request.query.get("exact", "0") == "1", self._author(request))
-        entry = await self._use(request, lambda document: document.do(asked))
+        if request.headers.get("Content-Encoding", "identity") != "identity":  # a few bytes may be gigabytes
+            raise NotLines("send the lines as they are, not compressed")
+        length = request.content_length
+        with self._bodies.taken(MOST_BODY if length is None else min(length, MOST_BODY)):
+            lines = await _body(request)
+            asked = Asked(_name_of(request), lines, Place.read(request.query.get("seen", "")), _is_exact(request),
+                          self._author(request))
+            entry = await self._use(request, lambda document: document.do(asked))
         self._metrics.refusals(entry.replies)
         return _answer(entry, entry.replies, LINES)
 
@@ -93,14 +106,16 @@ class Handlers:
 
     def _may_write(self, request: web.Request) -> None:
         header = self._words.read_only_header
-        if header and request.headers.get(header, "") not in ("", "0"):
+        if header and not set(request.headers.getall(header, [])) <= {"", "0"}:
             raise ReadOnly("you may only read this document")
 
     def _author(self, request: web.Request) -> str | None:
-        name = request.headers.get(self._words.user_header) if self._words.user_header else None
-        if name is not None and (len(name) > MOST_NAME or not name.isprintable()):
+        names: list[str] = request.headers.getall(self._words.user_header, []) if self._words.user_header else []
+        if len(names) > 1:
+            raise Refusal("there are several names of the user")
+        if any(len(name) > MOST_NAME or not name.isprintable() for name in names):
             raise Refusal("the user's name is too long, or has controls in it")
-        return name
+        return names[0] if names else None
 
 
 def _name_of(request: web.Request) -> str:
@@ -108,6 +123,22 @@ def _name_of(request: web.Request) -> str:
     if not REQUEST.fullmatch(name):
         raise Refusal(f"a request's name is {REQUEST.pattern}")
     return name
+
+
+def _is_exact(request: web.Request) -> bool:
+    value = request.query.get("exact", "0")
+    if value not in ("0", "1"):
+        raise Refusal("exact is 0 or 1")
+    return value == "1"
+
+
+async def _body(request: web.Request) -> bytes:
+    """The lines, each with its newline."""
+    try:
+        async with asyncio.timeout(BODY_SECONDS):
+            return (await request.read()).removesuffix(b"\n") + b"\n"
+    except TimeoutError:
+        raise Slow(f"the body has to come within {BODY_SECONDS} seconds") from None
 
 
 def _answer(entry: Entry, body: bytes, kind: str) -> web.Response:
