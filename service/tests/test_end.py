@@ -2,6 +2,7 @@
 import asyncio
 import contextlib
 import json
+import os
 import pathlib
 import signal
 import unittest
@@ -11,7 +12,13 @@ import aiohttp
 
 from .support import HELLO, HERE, InFolder, needs_node
 
-SLOW = b"".join(b'{"update":[{"append":"%d"}]}\n' % number for number in range(20_000))
+LAST = b'{"update":[{"append":"the last"}]}\n'
+
+
+def send(worker: Process, what: signal.Signals) -> None:
+    """Sends a signal to the programs of a worker."""
+    for process in pathlib.Path(f"/proc/{worker.pid}/task/{worker.pid}/children").read_text(encoding="ascii").split():
+        os.kill(int(process), what)
 
 
 def kill(worker: Process) -> None:
@@ -48,9 +55,13 @@ class Ending(InFolder):
     async def test_request_under_way_is_answered_and_kept(self) -> None:
         worker, address = await self.begun()
         first = await self.post(address, "a", "0", HELLO)
-        slow = asyncio.create_task(self.post(address, "b", first, SLOW[:SLOW.index(b'"3000"')].rpartition(b"\n")[0] + b"\n"))
+        send(worker, signal.SIGSTOP)  # so that the request takes as long as the test wants
+        slow = asyncio.create_task(self.post(address, "b", first, LAST))
         await asyncio.sleep(0.5)
         worker.send_signal(signal.SIGTERM)
+        await asyncio.sleep(0.5)
+        self.assertFalse(slow.done())
+        send(worker, signal.SIGCONT)
         second = await slow
         assert worker.stderr
         told = [json.loads(line) async for line in worker.stderr]
@@ -60,7 +71,7 @@ class Ending(InFolder):
         worker.kill()
         await worker.wait()
         (state,) = await self.state_of(2)
-        self.assertIn(b"2999", state)
+        self.assertIn(b"the last", state)
 
     async def state_of(self, number: int) -> tuple[bytes]:
         """The state that was kept with a row."""

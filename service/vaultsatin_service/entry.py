@@ -6,7 +6,6 @@ from typing import NamedTuple
 from .errors import Refusal
 
 REGISTERS = re.compile(rb"rule|listener|\\u")
-REPLY_LINE = re.compile(rb"(.*)\n")
 PLACE = re.compile(r"0|([1-9][0-9]{0,17})\.([0-9a-f]{32})")
 
 
@@ -55,12 +54,14 @@ class Entry(NamedTuple):
     def event(self) -> bytes:
         """The entry as a server-sent event. One that begins an epoch draws the document from nothing."""
         kind = b"event: begin\n" if self.begins else b""
-        data = REPLY_LINE.sub(rb"data: \1\n", self.replies)
-        return b"id: %b\n%b%b\n" % (str(self.place).encode(), kind, data)
+        data = self.replies[:-1].replace(b"\n", b"\ndata: ")
+        return b"id: %b\n%bdata: %b\n\n" % (str(self.place).encode(), kind, data)
 
 
 def registering(lines: bytes, replies: bytes) -> bytes:
     """Those of the lines that registered a rule or a listener. Numbers aren't read: Python refuses long ones."""
+    if not REGISTERS.search(lines):
+        return b""
     pairs = zip(lines.split(b"\n"), replies.split(b"\n")[:-1])
     return b"".join(line + b"\n" for line, reply in pairs
                     if REGISTERS.search(line) and not reply.startswith(b'{"refused"')

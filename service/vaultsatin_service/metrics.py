@@ -32,8 +32,8 @@ class Metrics:
 
     def refusals(self, replies: bytes) -> None:
         """Counts what the core refused."""
-        for cause in CAUSE.findall(replies):
-            self.count("refusals_total", cause=cause.decode())
+        for cause, count in Counter(CAUSE.findall(replies)).items():
+            self.count("refusals_total", count, cause=cause.decode())
 
     @contextlib.contextmanager
     def timed(self, part: str) -> Iterator[None]:

@@ -47,7 +47,10 @@ class Run:
 
     async def state(self) -> bytes:
         """The document, as it is stored."""
-        return (await self.question(STATE))[len(STATE_HEAD):-len(b"}\n")]
+        reply = await self.question(STATE)
+        if not reply.startswith(STATE_HEAD):
+            raise RuntimeError(f"the state isn't shown: {reply[:200]!r}")
+        return reply[len(STATE_HEAD):-len(b"}\n")]
 
     async def repeat(self, entries: list[Entry]) -> bool:
         """Does what the log has: whether the replies are the same."""
