@@ -6,6 +6,8 @@ import { linkOf } from './link-lines.js';
 import { isCaret } from './ranges.js';
 
 /** @typedef {import('./page.js').Page} Page */
+/** @typedef {import('../lines.js').Line} Line */
+/** @typedef {import('../lines.js').Selection} Selection */
 /** @typedef {import('../lines.js').Step} Step */
 /** @typedef {{ key: number, from: number, text: string, url: string }} Address a part of a text, and its address */
 
@@ -19,10 +21,11 @@ const marked = /\[([^[\]]+)\]\(([^\s()]+)\)$/u;
 /**
  * The address right before the caret, if it may become a link; null otherwise.
  * @param {Page} page
+ * @param {Selection} selected
  * @returns {Address | null}
  */
-export function addressBefore(page) {
-  const before = textBefore(page);
+export function addressBefore(page, selected) {
+  const before = textBefore(page, selected);
   const found = before && typedAddress.exec(before.text);
   if (!found) return null;
   const whole = found[1].replace(endOfSentence, '');
@@ -34,8 +37,9 @@ export function addressBefore(page) {
 /**
  * The text before the caret, where that may become a link, and the key of its host.
  * @param {Page} page
+ * @param {Selection | import('../replies.js').ReplySelection} selected
  */
-function textBefore({ view: { hosts }, selected }) {
+function textBefore({ view: { hosts } }, selected) {
   if (!isCaret(selected)) return null;
   const [key, offset] = selected.anchor, host = hosts.ofKey(key);
   if (!host?.text || linkOf(host) !== null || formatOf(host) & formatBits.code) return null;
@@ -43,24 +47,26 @@ function textBefore({ view: { hosts }, selected }) {
 }
 
 /**
- * Makes a link of an address, if it is still there. The caret stays where it is.
+ * What makes a link of an address, if it is still there. The caret stays where it is.
  * @param {Page} page
  * @param {Address} address
+ * @returns {Line | null}
  */
-export async function linkAddress(page, { key, from, text, url }) {
+export function linkOfAddress(page, { key, from, text, url }) {
   const host = page.view.hosts.ofKey(key);
-  if (host?.text?.startsWith(text, from) !== true) return;
-  await page.act({ tags: ['history-push'], update: linked(host, from, text.length, url) }, null);
+  if (host?.text?.startsWith(text, from) !== true) return null;
+  return { tags: ['history-push'], update: linked(host, from, text.length, url) };
 }
 
 /**
- * Makes a link of words and an address in brackets before the caret; what is typed next isn't of it.
+ * What makes a link of words and an address in brackets before the caret; what is typed next isn't of it.
  * @param {Page} page
+ * @returns {Line | null}
  */
-export async function linkInMarks(page) {
-  const before = textBefore(page), found = before && marked.exec(before.text);
+export function linkOfMarks(page) {
+  const before = textBefore(page, page.selection), found = before && marked.exec(before.text);
   const url = found && addressMeant(found[2]);
-  if (!url) return;
+  if (!url) return null;
   const { key, text: { length } } = before, { index, 1: words } = found, host = page.view.hosts.ofKey(key);
   const removed = (/** @type {number} */ from, /** @type {number} */ to) => [
     { select: { anchor: [key, from, 'text'], focus: [key, to, 'text'] } }, { dispatch: 'remove-text' },
@@ -68,7 +74,7 @@ export async function linkInMarks(page) {
   const left = { key, text: host.text.slice(0, index) + words + host.text.slice(length) };
   const steps = [...removed(index + 1 + words.length, length), ...removed(index, index + 1)];
   const end = { select: { anchor: [key, index + words.length, 'text'], focus: [key, index + words.length, 'text'] } };
-  await page.act({ tags: ['history-push'], update: [...steps, end, ...linked(left, index, words.length, url)] }, null);
+  return { tags: ['history-push'], update: [...steps, end, ...linked(left, index, words.length, url)] };
 }
 
 /**

@@ -3,10 +3,12 @@
 // gives back the marks as they were typed.
 import { edgeOf, indexOf } from '../hosts-order.js';
 import { formatBits, formatOf } from './formats.js';
-import { addressBefore, linkAddress, linkInMarks } from './link-typing.js';
+import { addressBefore, linkOfAddress, linkOfMarks } from './link-typing.js';
 import { blockAt, caretAt, isCaret } from './ranges.js';
 
 /** @typedef {import('./page.js').Page} Page */
+/** @typedef {import('../lines.js').Line} Line */
+/** @typedef {import('../lines.js').Selection} Selection */
 /** @typedef {import('../lines.js').Step} Step */
 
 const list = payload => [{ dispatch: 'make-list', payload }];
@@ -59,55 +61,71 @@ function stepsOf(mark, block) {
 }
 
 /**
- * The mark that stands between a paragraph's start and the caret, the key of the text that it is in, and the steps that
- * it stands for; or null.
- * @param {Page} page
- */
-function markBefore({ view: { hosts }, selected }) {
-  if (!isCaret(selected)) return null;
-  const [key, offset] = selected.anchor, host = hosts.ofKey(key), block = blockAt(hosts, selected.anchor);
-  if (block?.tag !== 'p' || host.text === null || block.children[0] !== host) return null;
-  const mark = host.text.slice(0, offset), steps = stepsOf(mark, block);
-  return steps && { key, mark, steps };
-}
-
-/**
- * Types a text.
+ * Types a text. What it completes is known once it is there, and what is typed next comes behind that.
  * @param {Page} page
  * @param {string} text
  */
-export async function type(page, text) {
-  const found = text === ' ' ? markBefore(page) : null;
-  const address = text === ' ' ? addressBefore(page) : null;
-  await page.act({ dispatch: 'insert-text', payload: text });
-  if (text === '*' || text === '`' || text === '~') return format(page);
-  if (text === ')') return linkInMarks(page);
-  if (address) return linkAddress(page, address);
-  if (found === null) return;
-  const { key, mark, steps } = found, typed = mark + text;
-  if (!page.view.hosts.ofKey(key)?.text?.startsWith(typed)) return; // the space has another format than the mark
-  const taken = { anchor: [key, 0, 'text'], focus: [key, typed.length, 'text'] };
-  await page.act({
-    tags: ['history-push'],
-    update: [{ select: taken }, { dispatch: 'remove-text' }, ...steps],
-  }, null);
-  await page.act({ dispatch: 'join-lists' }, null);
+export function type(page, text) {
+  const typed = { dispatch: 'insert-text', payload: text };
+  if (text === ' ' && isCaret(page.selected)) return space(page, typed);
+  if (text === '*' || text === '`' || text === '~') return page.act([typed, () => formatted(page)]);
+  if (text === ')') return page.act([typed, () => linkOfMarks(page)]);
+  return page.act(typed);
+}
+
+/**
+ * A space: an address before it becomes a link, or a mark at its paragraph's start what it stands for. A list that this
+ * makes joins those beside it.
+ * @param {Page} page
+ * @param {Line} typed
+ */
+function space(page, typed) {
+  /** @type {import('./link-typing.js').Address | null} */
+  let address = null;
+  let isMade = false;
+  return page.act([
+    selected => {
+      address = addressBefore(page, selected);
+      return typed;
+    },
+    () => {
+      const line = address ? linkOfAddress(page, address) : made(page);
+      isMade = line !== null && !address;
+      return line;
+    },
+    () => isMade ? { dispatch: 'join-lists' } : null,
+  ]);
+}
+
+/**
+ * What a mark and a space between a paragraph's start and the caret stand for, in their place.
+ * @param {Page} page
+ * @returns {Line | null}
+ */
+function made({ selection, view: { hosts } }) {
+  if (!isCaret(selection)) return null;
+  const [key, offset] = selection.anchor, host = hosts.ofKey(key), block = blockAt(hosts, selection.anchor);
+  if (block?.tag !== 'p' || host.text === null || block.children[0] !== host || host.text[offset - 1] !== ' ') return null;
+  const steps = stepsOf(host.text.slice(0, offset - 1), block);
+  if (steps === null) return null;
+  const taken = { anchor: [key, 0, 'text'], focus: [key, offset, 'text'] };
+  return { tags: ['history-push'], update: [{ select: taken }, { dispatch: 'remove-text' }, ...steps] };
 }
 
 /**
  * What stands between marks before the caret gets their format, and the marks go. What is typed next hasn't it.
  * @param {Page} page
+ * @returns {Line | null}
  */
-async function format(page) {
-  const { selection, view: { hosts } } = page;
-  if (!isCaret(selection)) return;
+function formatted({ selection, view: { hosts } }) {
+  if (!isCaret(selection)) return null;
   const [key, offset] = selection.anchor, host = hosts.ofKey(key), text = host.text?.slice(0, offset) ?? '';
   const [name, found] = inline.map(([each, pattern]) => [each, pattern.exec(text)]).find(([, match]) => match) ?? [];
-  if (!found || formatOf(host) & (formatBits.code | formatBits[name])) return;
+  if (!found || formatOf(host) & (formatBits.code | formatBits[name])) return null;
   const [{ length }, content] = found, start = offset - length, mark = (length - content.length) / 2;
   const range = (from, to) => ({ select: { anchor: [key, from, 'text'], focus: [key, to, 'text'] } });
   const formatting = { dispatch: 'format-text', payload: name };
-  await page.act({
+  return {
     tags: ['history-push'],
     update: [
       range(offset - mark, offset), { dispatch: 'remove-text' },
@@ -115,7 +133,7 @@ async function format(page) {
       range(start, start + content.length), formatting,
       { select: caretAt(['@focus', content.length, 'text']) }, formatting,
     ],
-  }, null);
+  };
 }
 
 /**
@@ -123,21 +141,45 @@ async function format(page) {
  * the caret becomes a link.
  * @param {Page} page
  */
-export async function enter(page) {
-  const { view: { hosts }, selected } = page;
+export function enter(page) {
+  /** @type {import('../hosts.js').Host | null} */
+  let hyphens = null;
+  /** @type {import('./link-typing.js').Address | null} */
+  let address = null;
+  return page.act([
+    selected => {
+      hyphens = hyphensAt(page, selected);
+      address = addressBefore(page, selected);
+      return { dispatch: 'insert-paragraph' };
+    },
+    () => hyphens && page.view.hosts.ofKey(hyphens.key) === hyphens ? ruled(page, hyphens) : null,
+    () => address && linkOfAddress(page, address),
+  ]);
+}
+
+/**
+ * @param {Page} page
+ * @param {Selection} selected
+ */
+function hyphensAt({ view: { hosts } }, selected) {
   const block = isCaret(selected) ? blockAt(hosts, selected.anchor) : null;
-  const isRule = block?.tag === 'p' && block.children.length === 1 && block.children[0].text === '---';
-  const address = addressBefore(page);
-  await page.act({ dispatch: 'insert-paragraph' });
-  if (address) return linkAddress(page, address);
-  if (!isRule || hosts.ofKey(block.key) !== block) return;
+  return block?.tag === 'p' && block.children.length === 1 && block.children[0].text === '---' ? block : null;
+}
+
+/**
+ * A rule in the place of a paragraph; what is selected stays.
+ * @param {Page} page
+ * @param {import('../hosts.js').Host} block
+ * @returns {Line}
+ */
+function ruled({ selection }, block) {
   const whole = { anchor: edgeOf(block, true), focus: edgeOf(block, false) };
-  const back = page.selection?.kind === 'range' ? { anchor: page.selection.anchor, focus: page.selection.focus } : null;
-  await page.act({
+  const back = selection?.kind === 'range' ? { anchor: selection.anchor, focus: selection.focus } : null;
+  return {
     tags: ['history-push'],
     update: [
       { select: whole }, { dispatch: 'remove-text' }, { new: 'horizontalrule', as: 'rule' },
       { replace: block.key, with: 'rule' }, { select: back },
     ],
-  }, null);
+  };
 }

@@ -16,6 +16,7 @@ import { startLines } from './rules.js';
 /** @typedef {import('../lines.js').Selection} Selection */
 /** @typedef {import('../replies.js').Reply} Reply */
 /** @typedef {import('../replies.js').ReplySelection} ReplySelection */
+/** @typedef {Line | ((selected: Selection) => Line | null)} Act */
 
 const GROUP = 64; // blocks that are together in an element: style.css guesses its height
 
@@ -23,6 +24,8 @@ export class Page {
   /** Shows the core's view; `view.element` is what one types in. */
   view;
   editor;
+  /** Whether undo may undo what somebody else did. */
+  isShared = false;
   /**
    * What the core said last of what is selected.
    * @type {ReplySelection}
@@ -98,8 +101,9 @@ export class Page {
 
   /**
    * Has lines answered in their turn, behind what is selected; each may dispatch a command of commands.js too. A line
-   * that is refused becomes a notice, and those behind it in the act aren't sent.
-   * @param {Line | readonly Line[]} lines
+   * that is refused becomes a notice, and those behind it in the act aren't sent. A function answers, once it is its
+   * turn, what the line is by then, or null for none.
+   * @param {Act | readonly Act[]} lines
    * @param {Selection} [selected] what the browser has selected if left out; null for what the core has
    * @returns {Promise<Reply[]>} a reply for each line that was sent
    */
@@ -176,8 +180,11 @@ export class Page {
 
   async #perform(lines, selected) {
     const replies = [];
-    for (const [index, line] of lines.entries()) {
-      const reply = await this.#do(line, index === 0 ? selected : null);
+    for (const [index, act] of lines.entries()) {
+      const first = index === 0 ? selected : null;
+      const line = typeof act === 'function' ? act(first ?? placesOf(this.selection)) : act;
+      if (line === null) continue;
+      const reply = await this.#do(line, first);
       replies.push(reply);
       if (!reply.refused) continue;
       this.notify(explain(reply.refused));

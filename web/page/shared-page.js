@@ -21,6 +21,7 @@ const OVERTAKEN = 'Somebody else has changed this place meanwhile: that wasn’t
 /** What the page's tools ask for, as `Page` of page.js has it. */
 export class SharedPage {
   view;
+  isShared = true;
   /** @type {import('../replies.js').ReplySelection} */
   selection = null;
   /** What can be undone isn't told: it may be anyone's. */
@@ -43,7 +44,7 @@ export class SharedPage {
     Object.assign(this.view.element, { contentEditable: 'true', role: 'textbox', ariaMultiLine: 'true' });
     this.view.element.ariaLabel = 'Document';
     this.#service = new Service(place, { onEntry: replies => this.#takeOthers(replies), onAnew: anew });
-    this.#session = new Session(this.#service, { onReply: reply => this.#learn(reply) });
+    this.#session = new Session(this.#service, { onReply: (reply, line) => this.#learn(reply, line) });
   }
 
   /** Draws what there is, and lets one type. */
@@ -66,7 +67,7 @@ export class SharedPage {
 
   /**
    * Has lines answered in their turn, behind what is selected, as `Page.act`.
-   * @param {Line | readonly Line[]} lines
+   * @param {import('./page.js').Act | readonly import('./page.js').Act[]} lines
    * @param {Selection} [selected]
    * @returns {Promise<Reply[]>}
    */
@@ -85,6 +86,15 @@ export class SharedPage {
       this.#waiting -= 1;
       if (!this.isBusy) this.#settle();
     }
+  }
+
+  /**
+   * What there is, behind all acts that wait: only the state is asked for, as no other question has an address.
+   * @param {{ show: 'state' }} _
+   */
+  async ask(_) {
+    await this.#turn;
+    return { state: await this.#service.state() };
   }
 
   /** @param {string} name @param {Function} listener */
@@ -115,8 +125,11 @@ export class SharedPage {
 
   async #perform(lines, followed) {
     const replies = [];
-    for (const [index, line] of lines.entries()) {
-      const reply = followed.isLost ? overtaken : await this.#do(line, index === 0 ? followed.value : null);
+    for (const [index, act] of lines.entries()) {
+      const first = index === 0 ? followed.value : null;
+      const line = typeof act === 'function' ? act(first ?? placesOf(this.selection)) : act;
+      if (line === null) continue;
+      const reply = followed.isLost ? overtaken : await this.#do(line, first);
       replies.push(reply);
       if (!reply.refused) continue;
       this.notify(reply.refused.cause === overtaken.refused.cause ? OVERTAKEN : explain(reply.refused));
@@ -145,12 +158,12 @@ export class SharedPage {
     this.#look();
   }
 
-  #learn(reply) {
+  #learn(reply, line) {
     this.#redraw(() => {
       if (reply.ops) this.#draw(reply.ops, false);
       if (reply.selection !== undefined) this.selection = reply.selection;
     }, () => this.selection);
-    this.#emit('told', { reply });
+    this.#emit('told', { line, reply });
   }
 
   /** Draws, and shows what is selected then. While acts wait, that isn't taken for what the reader has selected. */
