@@ -32,6 +32,15 @@ const sent = window.fetch, held = new Promise(resolve => { window.release = () =
 window.fetch = async (...words) => { await held; return sent(...words); };
 """
 RELEASE = "release()"
+TAGS = """
+return [...page.view.element.children].map(block => `${block.localName}: ${block.textContent}`);
+"""
+SAVE = """
+const [kind, done] = arguments, made = URL.createObjectURL;
+HTMLAnchorElement.prototype.click = () => {};
+URL.createObjectURL = blob => { URL.createObjectURL = made; blob.text().then(done); return 'data:,'; };
+document.querySelector(`[data-command=${kind}]`).click();
+"""
 
 
 class SharedPage(Page):  # type: ignore[misc]
@@ -47,6 +56,15 @@ class SharedPage(Page):  # type: ignore[misc]
         ends = time.monotonic() + SECONDS
         while self.driver.execute_script("return page.isBusy") and time.monotonic() < ends:
             time.sleep(0.02)
+
+
+    def blocks(self) -> object:
+        """Each block with its tag."""
+        return self.driver.execute_script(TAGS)
+
+    def saved(self, kind: str) -> str:
+        """What is in the file that is saved."""
+        return str(self.driver.execute_async_script(SAVE, kind))
 
 
 def begun(folder: str) -> tuple["subprocess.Popen[bytes]", str]:
@@ -132,6 +150,42 @@ def refused(ann: Page, ben: Page, results: Results) -> None:
     results.add("nothing of it is done", seen(ben.text, ["Hel1vwxyz", ""]))
 
 
+def marked(ann: SharedPage, ben: SharedPage, results: Results) -> None:
+    """Markdown's marks become what they stand for, however fast they are typed, and while somebody else types."""
+    ann.type("## Plan")
+    ann.keys(["enter"])
+    ann.type("milk **and bread** too")
+    ann.keys(["enter", "-", "-", "-", "enter"])
+    results.add("marks that are typed without a pause",
+                seen(ben.blocks, ["h2: Plan", "p: milk and bread too", "hr: ", "p: "]))
+    results.add("a format", seen(lambda: "<strong" in ben.html(), True))
+    ben.caret("Plan")
+    both(lambda: ann.type("> said", 0.05), lambda: ben.type("ning", 0.05))
+    for name, page in (("one", ann), ("the other", ben)):
+        results.add(f"a mark while somebody else types: {name}",
+                    seen(page.blocks, ["h2: Planning", "p: milk and bread too", "hr: ", "blockquote: said"]))
+
+
+def pasted(ann: SharedPage, ben: SharedPage, results: Results) -> None:
+    """What other programs copy has its form, and takes the place of what was selected. What was behind goes on below."""
+    ben.select("milk", 0, "milk", 4)
+    ben.paste(text="no", html="<p>one <b>two</b></p><ul><li>three</li></ul>")
+    both_see = "|p: one two|ul: three|p:  and bread too|"
+    for name, page in (("one", ann), ("the other", ben)):
+        results.add(f"rich text is pasted: {name}",
+                    seen(lambda page=page: both_see in "|".join(page.blocks()), True))  # type: ignore[misc]
+
+
+def kept(ann: SharedPage, results: Results) -> None:
+    """What there is can be saved, in three forms."""
+    document = json.loads(ann.saved("json"))
+    found = [block["type"] for block in document["root"]["children"]]
+    results.add("saved as JSON", [] if found[:3] == ["heading", "paragraph", "list"] else [str(found)])
+    for kind, part in (("html", "<h2>Planning</h2>"), ("md", "## Planning\n\none **two**\n\n- three")):
+        text = ann.saved(kind)
+        results.add(f"saved as {kind}", [] if part in text else [text])
+
+
 def main() -> int:
     """The status."""
     results = Results()
@@ -139,11 +193,17 @@ def main() -> int:
         worker, address = begun(folder)
         pages: list[SharedPage] = []
         try:
-            place = f"{address}/page/shared.html?document=two"
-            pages += [SharedPage(place), SharedPage(place)]
+            pages += [SharedPage(f"{address}/page/shared.html?document=two") for _ in range(2)]
             work(pages[0], pages[1], results)
             for page in pages:
                 results.add("no error is in the console", page.messages())
+                page.place = f"{address}/page/shared.html?document=three"
+                page.open()
+            marked(pages[0], pages[1], results)
+            pasted(pages[0], pages[1], results)
+            kept(pages[0], results)
+            for page in pages:
+                results.add("no error is in the console, and nothing was wrong", page.messages() + page.notices())
         finally:
             for page in pages:
                 page.close()

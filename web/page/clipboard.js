@@ -37,6 +37,15 @@ export function clipboard(page) {
   element.addEventListener('cut', event => {
     if (put(page, event.clipboardData, event)) page.act({ dispatch: 'cut' });
   });
+  pastes(page);
+}
+
+/**
+ * Pasting alone, for a page whose core doesn't answer at once: there the browser copies what it shows.
+ * @param {Page} page
+ */
+export function pastes(page) {
+  const { element } = page.view;
   const plainPastes = countPlainPastes(element);
   element.addEventListener('paste', event => {
     event.preventDefault();
@@ -217,7 +226,7 @@ export async function insert(page, content, selected = page.selected, tags = [])
   const at = outsideLink(hosts, isCut ? placesOf(page.selection) : selected);
   const steps = stepsFor(hosts, content, at);
   const [reply] = await page.act({ update: steps, tags: isCut ? ['history-merge'] : tags }, at);
-  if (reply?.refused && isCut) await page.act({ dispatch: 'undo' }); // nothing goes where nothing comes
+  if (reply?.refused && isCut && !page.isShared) await page.act({ dispatch: 'undo' }); // nothing goes where nothing comes
 }
 
 /**

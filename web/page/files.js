@@ -17,6 +17,7 @@ import { titleOf } from './titles.js';
  */
 
 const MOST_KEPT = 8; // documents of the browser's storage that the menu shows
+const all = ['new', 'open', 'json', 'html', 'md', 'delete'];
 
 /** @type {Record<string, (document: Document, title: string) => Written>} */
 const writers = {
@@ -44,8 +45,9 @@ const endings = { json: 'json', htm: 'html', html: 'html', xhtml: 'html', md: 'm
  * @param {Page} page
  * @param {HTMLElement} [element]
  * @param {Kept} [kept]
+ * @param {string[]} [offered] what there is in the menu, of `all`
  */
-export function files(page, element, kept) {
+export function files(page, element, kept, offered = all) {
   const chooser = document.createElement('input');
   chooser.type = 'file';
   chooser.accept = Object.keys(endings).map(ending => `.${ending}`).join();
@@ -62,10 +64,11 @@ export function files(page, element, kept) {
     md: () => save(page, 'md'),
     delete: () => forget(page, kept),
   };
+  for (const name of all) if (!offered.includes(name)) delete commands[name];
   if (element) element.append(...menuOf(commands, kept));
   document.addEventListener('keydown', event => {
     const name = isPressed(event, 'Mod+S') ? 'json' : isPressed(event, 'Mod+O') ? 'open' : null;
-    if (name === null) return;
+    if (name === null || !commands[name]) return;
     event.preventDefault();
     commands[name]();
   });
@@ -82,17 +85,17 @@ function menuOf(commands, kept) {
   button.className = 'tool files';
   button.textContent = 'File';
   const others = (kept?.others() ?? []).slice(0, MOST_KEPT);
-  const items = [
-    { name: 'new', label: 'New' },
-    { name: 'open', label: 'Open…', keys: 'Mod+O' },
-    null,
-    { name: 'json', label: 'Save as JSON', keys: 'Mod+S' },
-    { name: 'html', label: 'Save as HTML' },
-    { name: 'md', label: 'Save as Markdown' },
-    ...(kept?.forget ? [null, { name: 'delete', label: 'Delete this document…' }] : []),
-    ...(others.length > 0 ? [null] : []),
-    ...others.map(({ id, title, at }) => ({ name: `kept ${id}`, label: labelOf(title, at) })),
-  ];
+  const groups = [
+    [{ name: 'new', label: 'New' }, { name: 'open', label: 'Open…', keys: 'Mod+O' }],
+    [
+      { name: 'json', label: 'Save as JSON', keys: 'Mod+S' },
+      { name: 'html', label: 'Save as HTML' },
+      { name: 'md', label: 'Save as Markdown' },
+    ],
+    kept?.forget ? [{ name: 'delete', label: 'Delete this document…' }] : [],
+  ].map(group => group.filter(({ name }) => commands[name]));
+  const named = others.map(({ id, title, at }) => ({ name: `kept ${id}`, label: labelOf(title, at) }));
+  const items = [...groups, named].filter(group => group.length > 0).flatMap(group => [null, ...group]).slice(1);
   const choose = (/** @type {string} */ name) => {
     if (name.startsWith('kept ')) kept?.open?.(name.slice('kept '.length));
     else commands[name]();

@@ -64,6 +64,16 @@ export class Service {
   }
 
   /**
+   * The document, as it is stored.
+   * @returns {Promise<import('../replies.js').Document>}
+   */
+  async state() {
+    const answer = await fetch(`${this.#place}/state`);
+    if (!answer.ok) throw new Error(`The document can’t be read: ${await answer.text()}`);
+    return answer.json();
+  }
+
+  /**
    * Lets something follow what others do, until `leave`.
    * @param {any} value
    * @returns {Followed}
