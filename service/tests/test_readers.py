@@ -88,6 +88,7 @@ class Following(InFolder):
         self.log.told = lambda _: None
         self.readers = Readers(self.log, look_seconds=600)
         with mock.patch.object(self.store, "listen", listen):
+            self.look(self.readers.look())
             self.look(self.readers.listen())
             follow = self.readers.follow("plan", first.place)
             waiting = asyncio.create_task(self.next(follow))

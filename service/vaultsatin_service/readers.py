@@ -46,6 +46,7 @@ class Readers:
         self._log, self._look_seconds = log, look_seconds
         self._topics: WeakValueDictionary[str, Topic] = WeakValueDictionary()  # as long as they have readers
         self._untold: asyncio.Queue[str] = asyncio.Queue()
+        self._listens_anew = asyncio.Event()
         self._is_over = False
 
     def told(self, document: str) -> None:
@@ -55,9 +56,6 @@ class Readers:
     def end(self) -> None:
         """Lets all readers go: they come again, to another worker."""
         self._is_over = True
-        self._wake_all()
-
-    def _wake_all(self) -> None:
         for topic in list(self._topics.values()):
             topic.wake()
 
@@ -100,7 +98,7 @@ class Readers:
         """Hears what workers tell. Nobody heard what was told before."""
         while True:
             try:
-                await self._log.store.listen(self._hear, self._wake_all)
+                await self._log.store.listen(self._hear, self._listens_anew.set)
             except Away as error:
                 LOG.warning("no news", extra={"why": str(error).partition("\n")[0]})
             await asyncio.sleep(AGAIN_SECONDS)
@@ -112,7 +110,10 @@ class Readers:
     async def look(self) -> None:
         """Finds what nobody told: whoever made the row has died, or this worker didn't hear."""
         while True:
-            await asyncio.sleep(self._look_seconds)
+            with contextlib.suppress(TimeoutError):
+                async with asyncio.timeout(self._look_seconds):
+                    await self._listens_anew.wait()
+            self._listens_anew.clear()
             with contextlib.suppress(Away):
                 for document, last in await self._log.lasts(list(self._topics)):
                     topic = self._topics.get(document)

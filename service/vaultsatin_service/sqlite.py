@@ -65,8 +65,14 @@ class Sqlite:
 
     async def lasts(self, documents: Sequence[str]) -> list[tuple[str, str]]:
         """The id of each document's last row. A row isn't told if nobody waited for it any more."""
-        rows = {document: await self.ask(LAST, document=document) for document in documents}
-        return [(document, row[0][0]) for document, row in rows.items() if row]
+        assert self._connection
+        connection = self._connection
+
+        def look() -> list[tuple[str, str]]:
+            rows = {document: connection.execute(LAST, {"document": document}).fetchone() for document in documents}
+            return [(document, row[0]) for document, row in rows.items() if row]
+
+        return await self._run(look)
 
     async def listen(self, hear: Hear, begin: Callable[[], None]) -> None:
         """Passes on what this worker tells itself."""
