@@ -15,8 +15,8 @@ from .file import File, fill_disk
 from .trial import CARET, HEADERS, RULES, Asked, Trial, Worker
 
 WITNESSES = [f"witness-{number}" for number in range(3)]
-AWAY_SECONDS = 3.0  # in which a row is made that waits for the standby
-LOOK_SECONDS = 15.0  # in which it is seen, once its database has begun again
+AWAY_SECONDS = 8.0  # in which a row is made that waits for the standby
+LOOK_SECONDS = 30.0  # in which it is seen, once its database has begun again
 END_SECONDS = 60.0  # in which a worker ends by SIGTERM, also while its database is away
 
 
@@ -109,6 +109,8 @@ class Harm:
         first has to notice that the row is gone, or has another id, before it makes the next one."""
         onlooker, maker, *_ = self._trial.workers
         before = await self._begin_witnesses()
+        for name in before:
+            before[name] = await self._pass_epoch(name, before[name], onlooker, maker)
         await asyncio.to_thread(cluster.lose_second)
         for is_done in await asyncio.gather(*(self._do_lost(it, before[it], maker) for it in before)):
             self._trial.counts["answers without a standby"] += is_done
@@ -136,11 +138,25 @@ class Harm:
         firsts = [Asked(name, "begin", RULES, "0") for name in WITNESSES]
         return {it.document: it.entry for it in firsts if await self._trial.ask(it)}
 
+    async def _pass_epoch(self, name: str, seen: str, one: Worker, other: Worker) -> str:
+        """One worker has a document open, another one begins an epoch, and the first, which hasn't heard of that, is asked
+        for more: the place of the row after that."""
+        before = Asked(name, "before-epoch", CARET, seen)
+        await self._trial.ask(before, one)
+        with contextlib.suppress(aiohttp.ClientError, TimeoutError):
+            url, limit = self._trial.url(name, "epoch", other), aiohttp.ClientTimeout(20)
+            async with self._trial.session.put(url, params={"seen": before.entry}, timeout=limit) as answer:
+                self._trial.counts["epochs that a worker hasn't heard of"] += answer.status == 200
+        behind = Asked(name, "behind-epoch", CARET, before.entry)
+        await self._trial.ask(behind, one)
+        return behind.entry
+
     async def _go_on(self, before: dict[str, str], lost: dict[str, str | None], worker: Worker) -> None:
         """Makes rows in the place of those that are lost. Then somebody comes who has seen a lost one, and a reader who
         was cut off behind it. The reader comes only now: as long as there is no row of that number, any look at the log
         shows that the row is gone."""
         for name, first in before.items():
+            self._trial.counts["rows that were seen and lost"] += 0
             await self._trial.ask(Asked(name, "next", CARET, first), worker)
             if it := lost[name]:
                 await self._trial.ask(Asked(name, "behind-lost", CARET, it), worker)
