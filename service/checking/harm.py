@@ -116,7 +116,7 @@ class Harm:
             self._trial.counts["answers without a standby"] += is_done
         await self._end(maker, signal.SIGKILL)
         await asyncio.to_thread(cluster.restart_first)
-        lost = {name: await self._lost_entry(name, before[name], onlooker) for name in before}
+        lost = await self._lost_entries(before, onlooker)
         await asyncio.to_thread(cluster.lose_first)
         await self._is_well(onlooker)
         await self._go_on(before, lost, onlooker)
@@ -127,7 +127,7 @@ class Harm:
         worker = self._trial.workers[0]
         before = await self._begin_witnesses()
         await asyncio.gather(*(self._do_lost(name, before[name], worker) for name in before))
-        lost = {name: await self._lost_entry(name, before[name], worker) for name in before}
+        lost = await self._lost_entries(before, worker)
         await self._end(worker, signal.SIGKILL)
         await asyncio.to_thread(file.restore, list(before))
         worker.start()
@@ -171,6 +171,11 @@ class Harm:
                                                 headers=HEADERS, timeout=aiohttp.ClientTimeout(AWAY_SECONDS)) as answer:
                 return answer.status == 200
         return False
+
+    async def _lost_entries(self, before: dict[str, str], worker: Worker) -> dict[str, str | None]:
+        """The rows that will be lost, looked for at once: nobody can write meanwhile."""
+        found = await asyncio.gather(*(self._lost_entry(name, first, worker) for name, first in before.items()))
+        return dict(zip(before, found))
 
     async def _lost_entry(self, name: str, before: str, worker: Worker) -> str | None:
         """The row that will be lost, as the worker does it."""
