@@ -129,7 +129,7 @@ export class SharedPage {
       const first = index === 0 ? followed.value : null;
       const line = typeof act === 'function' ? act(first ?? placesOf(this.selection)) : act;
       if (line === null) continue;
-      const reply = followed.isLost ? overtaken : await this.#do(line, first);
+      const reply = index === 0 && followed.isLost ? overtaken : await this.#do(line, first);
       replies.push(reply);
       if (!reply.refused) continue;
       this.notify(reply.refused.cause === overtaken.refused.cause ? OVERTAKEN : explain(reply.refused));
