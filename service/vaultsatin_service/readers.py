@@ -11,6 +11,7 @@ from .limits import MOST_READERS
 from .log import Log
 
 LOG = logging.getLogger("service.readers")
+Asked = asyncio.Task[list[Entry]]
 TELL_SECONDS = 0.01  # in which news is gathered
 AGAIN_SECONDS = 1.0  # until somebody listens again
 
@@ -22,7 +23,7 @@ class Topic:
         self.document, self.last = document, ""
         self.news = asyncio.Event()
         self._log = log
-        self._asked: dict[Place, asyncio.Task[list[Entry]]] = {}
+        self._asked: dict[Place, Asked] = {}
 
     def wake(self) -> None:
         """Says that there may be more. Who asks from now on asks anew."""
@@ -34,8 +35,15 @@ class Topic:
         asked = self._asked
         if place not in asked:
             asked[place] = asyncio.create_task(self._log.behind(self.document, place))
-            asked[place].add_done_callback(lambda _: asked.pop(place))
+            asked[place].add_done_callback(lambda task: self._answered(asked, place, task))
         return await asyncio.shield(asked[place])
+
+    @staticmethod
+    def _answered(asked: dict[Place, Asked], place: Place, task: Asked) -> None:
+        """What went wrong concerns the readers that wait for it: all of them may have gone meanwhile."""
+        del asked[place]
+        if not task.cancelled():
+            task.exception()
 
 
 class Readers:
