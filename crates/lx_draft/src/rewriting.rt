@@ -5,7 +5,10 @@ ghost use Rattle.std.specs.Prelude.{◌≡◌, ◌≢◌, ◌+◌, ◌≤◌, �
 ghost use Rattle.lx_trees.specs.Trees.{nil};
 ghost use Rattle.lx_node.specs.Limits.{most_counts, most_written};
 ghost use Rattle.lx_node.specs.declared.fields.Fields as declared;
+ghost use Rattle.lx_node.specs.Strings.{capped};
 ghost use Rattle.lx_forest.specs.Lookups as lookups;
+ghost use Rattle.lx_forest.specs.Weights.{weight};
+ghost use Rattle.lx_links.specs.Sums.{items_in, item_characters_in};
 ghost use Rattle.lx_draft.specs.Faults.{TellsStep, Leaves};
 ghost use Rattle.lx_draft.specs.Rewriting.{MaySetAgain, StopsAgain};
 ghost use Rattle.lx_draft.specs.Steps as steps;
@@ -13,7 +16,7 @@ ghost use Rattle.lx_draft.specs.Steps.{set_step};
 
 use crate::draft::Draft;
 use lx_node::limits::{MOST_COUNTS, MOST_WRITTEN};
-use lx_node::{Cause, Fault, Fields, Key, Named};
+use lx_node::{Cause, Fault, Fields, Key, Named, NoMemory};
 
 impl Draft {
     /// Does what `set` does with the fields that the node has, without a copy of them. It takes a count and
@@ -65,6 +68,16 @@ impl Draft {
         }
     }
 
+    /// Whether so many edits more, which write so many scalar values together, are within the limits.
+    pub fn may_write(&self, nodes: u64, characters: u64) -> bool
+        ensures counts { IsTrue result → self.now.counted + nodes ≤ most_counts }
+        ensures written { IsTrue result → self.now.written + characters ≤ most_written }
+        ensures beyond { result ≡ false → (most_counts < self.now.counted + nodes) ⊎ (most_written < self.now.written + characters) }
+    {
+        nodes <= (MOST_COUNTS - self.counted) as u64
+            && characters <= MOST_WRITTEN - self.written as u64
+    }
+
     /// Takes so many edits at once that leave all as it is, each with a count, and so many scalar values
     /// that they write together. Where that would be beyond a limit it takes none of them and answers false.
     pub fn rewrite(&mut self, nodes: u64, characters: u64) -> bool
@@ -74,15 +87,22 @@ impl Draft {
         ensures same { result ≡ false → self.new ≡ self.old }
         ensures beyond { result ≡ false → (most_counts < self.old.counted + nodes) ⊎ (most_written < self.old.written + characters) }
     {
-        if nodes > (MOST_COUNTS - self.counted) as u64 {
-            return false;
-        }
-        if characters > MOST_WRITTEN - self.written as u64 {
+        if !self.may_write(nodes, characters) {
             return false;
         }
         self.counted += nodes as u32;
         self.edits += nodes as u32;
         self.written += characters as u32;
         true
+    }
+
+    /// How many items aren't in the root's tree, and how many scalar values are in their strings, up to 2^64 - 1. It
+    /// walks what was taken out, and nothing else.
+    pub fn loose_items(&self) -> Result<(u64, u64), NoMemory>
+        ensures items { IfOk result (λ found. found.0 ≡ weight items_in (lookups.without 0 self.now.forest)) }
+        ensures characters { IfOk result (λ found. found.1 ≡ capped (weight item_characters_in (lookups.without 0 self.now.forest))) }
+    {
+        self.living()?;
+        self.links.loose_items(self.loose.leaves())
     }
 }
