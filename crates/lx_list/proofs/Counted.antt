@@ -25,7 +25,6 @@ use Rattle.lx_draft.specs.Faults.{after}
 use Rattle.lx_draft.specs.Steps.{rewritten, set_step}
 use Rattle.lx_draft.proofs.Again.{set_again-element}
 use Rattle.lx_draft.proofs.Rewritten.{rewritten-none, rewritten-more}
-use Rattle.lx_edit.specs.InTurn.{in_turn}
 use Rattle.lx_blocks.specs.Blocks.{passes, is_at}
 use Rattle.lx_list.specs.Making.{changed, numbered, with_extra, set_changed, change_step, number_item}
 use Rattle.lx_list.specs.Nesting.{is_nesting}
@@ -114,7 +113,7 @@ next_have f n item items have i q at =
     by_nesting true m = omega arith
     by_nesting false m = omega arith
 
-items_again : (n : ℕ) (items : List ℕ) (w : Working) → IsForest w.forest → IsSuited w.forest
+pub items_again : (n : ℕ) (items : List ℕ) (w : Working) → IsForest w.forest → IsSuited w.forest
     → ((q : ℕ) → is_among q items ≡ true → is_at is_item w.forest q ≡ true) → HaveNumbers w.forest n items
     → HasRoomFor (sum_by (own_items w.forest) items) (sum_by (own_characters w.forest) items) w
     → numbered_from n items w ≡ Ok (rewritten (sum_by (own_items w.forest) items) (sum_by (own_characters w.forest) items) w)
@@ -139,7 +138,7 @@ items_again n (item ∷ items) w h suited are have fits =
 
 -- ---- lists, one after another
 
-list_again : (list : ℕ) (w : Working) → IsForest w.forest → IsHeld may_hold w.forest → IsSuited w.forest → is_at is_list w.forest list ≡ true
+pub list_again : (list : ℕ) (w : Working) → IsForest w.forest → IsHeld may_hold w.forest → IsSuited w.forest → is_at is_list w.forest list ≡ true
     → IsNumberedList w.forest list
     → HasRoomFor (sum_by (own_items w.forest) (children_of w.forest list)) (sum_by (own_characters w.forest) (children_of w.forest list)) w
     → list_numbered list w
@@ -147,30 +146,3 @@ list_again : (list : ℕ) (w : Working) → IsForest w.forest → IsHeld may_hol
 list_again list w h held suited is numbered fits =
     items_again (start_at (fields_of w.forest list)) (children_of w.forest list) w h suited
     (λ q among. item_below w.forest list q held is (parent_there w.forest list q h among)) numbered fits
-
-abbrev pub items_below : Forest → ℕ → ℕ
-items_below f list = sum_by (own_items f) (children_of f list)
-
-abbrev pub characters_below : Forest → ℕ → ℕ
-characters_below f list = sum_by (own_characters f) (children_of f list)
-
-pub lists_again : (lists : List ℕ) (w : Working) → IsForest w.forest → IsHeld may_hold w.forest → IsSuited w.forest
-    → ((list : ℕ) → is_among list lists ≡ true → (is_at is_list w.forest list ≡ true) × IsNumberedList w.forest list)
-    → HasRoomFor (sum_by (items_below w.forest) lists) (sum_by (characters_below w.forest) lists) w
-    → in_turn list_numbered lists w ≡ Ok (rewritten (sum_by (items_below w.forest) lists) (sum_by (characters_below w.forest) lists) w)
-unfolding in_turn
-lists_again [] w h held suited are fits = ap Ok (sym (rewritten-none w))
-lists_again (list ∷ lists) w h held suited are fits =
-    let f : Forest = w.forest in
-    let a : ℕ = items_below f list in
-    let b : ℕ = characters_below f list in
-    let more : sum_by (items_below f) (list ∷ lists) ≡ a + sum_by (items_below f) lists = sum_by-cons (items_below f) list lists in
-    let longer : sum_by (characters_below f) (list ∷ lists) ≡ b + sum_by (characters_below f) lists = sum_by-cons (characters_below f) list lists in
-    let own = are list (grind (arith, eqb_tells list list)) in
-    let v : Working = rewritten a b w in
-    let first : list_numbered list w ≡ Ok v = list_again list w h held suited own.0 own.1 (omega (arith, fits.0, more), omega (arith, fits.1, longer)) in
-    let rest : in_turn list_numbered lists v ≡ Ok (rewritten (sum_by (items_below f) lists) (sum_by (characters_below f) lists) v) =
-    lists_again lists v h held suited (λ other among. are other (grind (arith, among))) (omega (arith, fits.0, more), omega (arith, fits.1, longer)) in
-    ap (λ r. after r (in_turn list_numbered lists)) first ∙ rest
-    ∙ ap Ok (rewritten-more a b (sum_by (items_below f) lists) (sum_by (characters_below f) lists) w)
-    ∙ ap₂ (λ x y. Ok (rewritten x y w)) (sym more) (sym longer)

@@ -10,6 +10,7 @@ pub mod Ended
 pub mod Itemized
 pub mod Itemless
 pub mod Kept
+pub mod KeptLists
 pub mod Linewise
 pub mod Lying
 pub mod Made
@@ -17,13 +18,18 @@ pub mod Moved
 pub mod Numbered
 pub mod Numbers
 pub mod Outs
+pub mod Parted
 pub mod Paths
 pub mod Renumbered
 pub mod Renumbers
 pub mod Rewritten
+pub mod Runs
 pub mod Small
 pub mod Stands
 pub mod Sums
 pub mod Swept
+pub mod Untouched
+pub mod Weights
+pub mod WindowEnds
 pub mod Within
 pub mod Written

@@ -69,7 +69,7 @@ pub nesting-alike : (f g : Forest) → IsAlike f g → (q : ℕ) → is_nesting 
 nesting-alike f g a q =
     ap is_some (first-alike f g a (first_child g q) ∙ ap (λ xs. if_list f (first_of xs)) (children-alike f g a q))
 
-count-agree : (p r : ℕ → Bool) → ((q : ℕ) → p q ≡ r q) → (xs : List ℕ) → count_by p xs ≡ count_by r xs
+pub count-agree : (p r : ℕ → Bool) → ((q : ℕ) → p q ≡ r q) → (xs : List ℕ) → count_by p xs ≡ count_by r xs
 count-agree p r same [] = refl
 count-agree p r same (x ∷ xs) = grind (arith, same x, count-agree p r same xs)
 
@@ -202,11 +202,11 @@ due_there f list q i h at =
     ap (λ p. index_in (children_below f p) q) up ∙ index_in-slice_get (children_of f list) q i (NoRepeats-children_of f list h) at in
     ap (λ p. due f (unwrap_or p 0) (unwrap_or (index_of f q) 0)) up ∙ ap (λ p. due f list (unwrap_or p 0)) place
 
-at-append : (before : List ℕ) (q : ℕ) (rest : List ℕ) → slice_get (before ++ q ∷ rest) (length before) ≡ Some q
+pub at-append : (before : List ℕ) (q : ℕ) (rest : List ℕ) → slice_get (before ++ q ∷ rest) (length before) ≡ Some q
 at-append [] q rest = refl
 at-append (x ∷ before) q rest = at-append before q rest
 
-abbrev counts : Forest → List ℕ → ℕ
+abbrev pub counts : Forest → List ℕ → ℕ
 counts f before = count_by (λ item. not (is_nesting f item)) before
 
 -- the number that comes to an item after others
@@ -216,7 +216,7 @@ due-append f list q before rest whole =
     ap (λ xs. start_at (fields_of f list) + counts f xs) (ap (take (length before)) (sym whole) ∙ take-append_seam before (q ∷ rest))
 
 -- ... and to the next
-next_due : (f : Forest) (q start : ℕ) (before : List ℕ)
+pub next_due : (f : Forest) (q start : ℕ) (before : List ℕ)
     → cond (is_nesting f q) (start + counts f before) (start + counts f before + 1) ≡ start + counts f (before ++ q ∷ [])
 next_due f q start before =
     let one : counts f (before ++ q ∷ []) ≡ counts f before + counts f (q ∷ []) = sum_by-append (λ item. cond (not (is_nesting f item)) 1 0) before (q ∷ []) in
@@ -266,7 +266,7 @@ pub record AreNumbered (f g h : Forest) (lists : List ℕ) : Type 0 where
   pub kept : (q : ℕ) → IsRight f g q → IsRight f h q
   pub right : ListsRight f h lists
 
-list_given : (f : Forest) (list : ℕ) (w v : Working) → IsForest f → HasItems f → is_at is_list f list ≡ true → IsAlike f w.forest → list_numbered list w ≡ Ok v
+pub list_given : (f : Forest) (list : ℕ) (w v : Working) → IsForest f → HasItems f → is_at is_list f list ≡ true → IsAlike f w.forest → list_numbered list w ≡ Ok v
     → AreGiven f w.forest v.forest (children_of f list)
 list_given f list w v h items is_a_list a e =
     items_given f list (start_at (fields_of f list)) [] (children_of f list) w v h items is_a_list a refl (omega arith)

@@ -1,4 +1,4 @@
--- The items of the lists of the root's tree are all items of a forest in which nothing is detached.
+-- Sums over the nodes of a tree, by the children of each. Of the children of nodes only those of lists are items.
 use Rattle.std.proofs.Common.{◌≡◌, ◌∙◌, ℕ, ◌+◌, ◌<◌, Bool, true, false, cond, List, [], ◌∷◌, ◌++◌, Option, None, Some, refl, sym, ap, ap₂, arith, inl, inr}
 use Rattle.std.specs.Prelude.{option_map, sum_by, filter}
 use Rattle.std.proofs.lemmas.List.Sums.{sum_by-cons, sum_by-append}
@@ -14,17 +14,13 @@ use Rattle.lx_node.specs.declared.kind.Kind.TheVariants.{List as ListKind, Item,
 use Rattle.lx_trees.proofs.NamedTrees.{names-alone}
 use Rattle.lx_trees.proofs.Spots.{spot_below-absent}
 use Rattle.lx_forest.specs.Forest.{Forest, Label}
-use Rattle.lx_forest.specs.Lookups.{key_of, count, alone, without, spot, parent_of, children_of, is_attached, preorder, holds, IsForest, IsHeld}
-use Rattle.lx_forest.specs.Loose.{is_top}
-use Rattle.lx_forest.specs.Weights.{weight, own_weight, weight_in}
+use Rattle.lx_forest.specs.Lookups.{key_of, count, alone, spot, parent_of, children_of, is_attached, preorder, holds, IsForest, IsHeld}
+use Rattle.lx_forest.specs.Weights.{own_weight, weight_in}
 use Rattle.lx_forest.proofs.Edits.{has-root}
 use Rattle.lx_forest.proofs.Lookups.{has-child, has-parent_of}
 use Rattle.lx_forest.proofs.Walks.{spot_in_tree, tree_distinct}
-use Rattle.lx_forest.proofs.Tops.{weight-tops}
-use Rattle.lx_forest.proofs.Weights.{weight-preorder, weight-drop_detached}
 use Rattle.lx_blocks.specs.Blocks.{passes, is_at}
 use Rattle.lx_list.proofs.Itemless.{spot_known}
-use Rattle.lx_list.proofs.Numbered.{parent_there}
 
 -- ---- a sum over all keys is one over the first trees' and one over the children of each
 
@@ -53,7 +49,7 @@ below_sum g children r (tree l below rest) once told =
       sum_by-append (λ k. sum_by g (children k)) (named.preorder key_of below) (named.preorder key_of rest),
     )
 
-tree_sum : (g : ℕ → ℕ) (f : Forest) → IsForest f → sum_by g (preorder f) ≡ g 0 + sum_by (λ k. sum_by g (children_of f k)) (preorder f)
+pub tree_sum : (g : ℕ → ℕ) (f : Forest) → IsForest f → sum_by g (preorder f) ≡ g 0 + sum_by (λ k. sum_by g (children_of f k)) (preorder f)
 tree_sum g f h =
     let all = below_sum g (children_of f) None (alone 0 f) (tree_distinct f h) told in
     let first : sum_by g (named.names key_of (alone 0 f)) ≡ g 0 =
@@ -67,7 +63,7 @@ tree_sum g f h =
       by_attached false e = absurd (cc)
 
 -- what weighs nothing may be left out
-filtered_sum : (h : ℕ → ℕ) (p : ℕ → Bool) (ks : List ℕ) → ((k : ℕ) → p k ≡ false → h k ≡ 0) → sum_by h (filter p ks) ≡ sum_by h ks
+pub filtered_sum : (h : ℕ → ℕ) (p : ℕ → Bool) (ks : List ℕ) → ((k : ℕ) → p k ≡ false → h k ≡ 0) → sum_by h (filter p ks) ≡ sum_by h ks
 filtered_sum h p [] none = refl
 filtered_sum h p (k ∷ ks) none =
     elim (cases_Bool (p k)) [
@@ -75,7 +71,7 @@ filtered_sum h p (k ∷ ks) none =
       | inr fails ↦ rw fails (omega (arith, sum_by-cons h k ks, none k fails, filtered_sum h p ks none))
     ]
 
-zero_sum : (h : ℕ → ℕ) (ks : List ℕ) → ((k : ℕ) → is_among k ks ≡ true → h k ≡ 0) → sum_by h ks ≡ 0
+pub zero_sum : (h : ℕ → ℕ) (ks : List ℕ) → ((k : ℕ) → is_among k ks ≡ true → h k ≡ 0) → sum_by h ks ≡ 0
 zero_sum h [] none = refl
 zero_sum h (k ∷ ks) none = omega (arith, sum_by-cons h k ks, none k (grind (arith, eqb_tells k k)), zero_sum h ks (λ q among. none q (grind (arith, among))))
 
@@ -94,7 +90,7 @@ held_item outer inner is may = absurd (cc)
 weighs_nothing : (of : Label → ℕ) (l : Label) → is_item l.kind ≡ false → weighed of l ≡ 0
 weighs_nothing of l not_it = ap (λ b. cond b (of l) 0) not_it
 
-light_child : (of : Label → ℕ) (f : Forest) (k q : ℕ) → IsHeld may_hold f → is_at is_list f k ≡ false → parent_of f q ≡ Some k → own_weight (weighed of) f q ≡ 0
+pub light_child : (of : Label → ℕ) (f : Forest) (k q : ℕ) → IsHeld may_hold f → is_at is_list f k ≡ false → parent_of f q ≡ Some k → own_weight (weighed of) f q ≡ 0
 light_child of f k q held other up =
     let kind : Option (Spot Label) → Option Kind = λ o. option_map (λ (l : Label). l.kind) (option_map (λ (s : Spot Label). s.label) o) in
     let outer = spot_known f k (has-parent_of f q k up) in
@@ -109,7 +105,7 @@ light_child of f k q held other up =
         elim (cases_Bool (is_item inner))
         [ inl item ↦ (let a_list : is_list outer ≡ true = held_item outer inner item may in absurd (cc)) | inr not_it ↦ not_it ]
 
-light_root : (of : Label → ℕ) (f : Forest) → IsForest f → own_weight (weighed of) f 0 ≡ 0
+pub light_root : (of : Label → ℕ) (f : Forest) → IsForest f → own_weight (weighed of) f 0 ≡ 0
 unfolding is_item
 light_root of f h = by_spot (spot f 0) refl where
   by_kind : (l : Label) → Some l.kind ≡ Some Root → weighed of l ≡ 0
@@ -120,21 +116,3 @@ light_root of f h = by_spot (spot f 0) refl where
   by_spot (Some s) e =
       ap (λ o. weight_in (weighed of) (option_map (λ (s : Spot Label). s.label) o)) e
       ∙ by_kind s.label (sym (ap (λ (o : Option (Spot Label)). option_map (λ (l : Label). l.kind) (option_map (λ (t : Spot Label). t.label) o)) e) ∙ h.root)
-
--- ---- the whole forest
-
-whole_sum : (of : Label → ℕ) (f : Forest) → IsForest f → ((q : ℕ) → is_top f q ≡ false) → sum_by (own_weight of f) (preorder f) ≡ weight of f
-whole_sum of f h none =
-    let kept =
-    weight-preorder of (own_weight of f) f h (λ q s e. ap (λ (o : Option (Spot Label)). weight_in of (option_map (λ (t : Spot Label). t.label) o)) e) in
-    let gone : 0 ≡ weight of (without 0 f) = weight-tops of f [] h tt (λ q. sym (none q)) in
-    omega (arith, kept, gone, weight-drop_detached of f)
-
-pub items_sum : (of : Label → ℕ) (f : Forest) → IsForest f → IsHeld may_hold f → ((q : ℕ) → is_top f q ≡ false)
-    → sum_by (λ list. sum_by (own_weight (weighed of) f) (children_of f list)) (filter (is_at is_list f) (preorder f)) ≡ weight (weighed of) f
-items_sum of f h held none =
-    let own : ℕ → ℕ = own_weight (weighed of) f in
-    filtered_sum (λ k. sum_by own (children_of f k)) (is_at is_list f) (preorder f)
-    (λ k other. zero_sum own (children_of f k) (λ q among. light_child of f k q held other (parent_there f k q h among)))
-    ∙ omega (arith, tree_sum own f h, light_root of f h)
-    ∙ whole_sum (weighed of) f h none

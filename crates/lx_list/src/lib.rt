@@ -22,8 +22,11 @@ mod making;
 mod nesting;
 mod numbering;
 mod outdenting;
+mod parts;
 mod retyping;
-mod standing;
+mod touched;
+mod weighing;
+mod windows;
 
 pub use checking::{set_checked, toggle_checked};
 pub use commands::{indent, make_list, outdent, remove_list};

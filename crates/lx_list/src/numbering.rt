@@ -1,9 +1,10 @@
 //! Items get their numbers.
 
-ghost use Rattle.std.specs.Prelude.{◌≡◌, ◌+◌, ◌<◌, ◌^◌, ◌++◌, ◌∷◌, [], length, if◌then◌else◌, false, IsTrue, Ok, OnOk, IfOk, filter};
+ghost use Rattle.std.specs.Prelude.{ℕ, ◌≡◌, ◌+◌, ◌<◌, ◌^◌, ◌++◌, ◌∷◌, [], length, if◌then◌else◌, true, OnOk, IfOk, IfSome, IfNone, filter};
+ghost use Rattle.lx_trees.specs.Siblings.{is_among};
 ghost use Rattle.lx_node.specs.Kinds as kinds;
 ghost use Rattle.lx_forest.specs.Lookups as lookups;
-ghost use Rattle.lx_forest.specs.Lookups.{IsHeld};
+ghost use Rattle.lx_forest.specs.Lookups.{IsForest, IsHeld};
 ghost use Rattle.lx_forest.specs.Suited.{IsSuited};
 ghost use Rattle.lx_links.specs.Stands.{Sound};
 ghost use Rattle.lx_draft.specs.Covering.{IsReady};
@@ -15,11 +16,14 @@ ghost use Rattle.lx_list.specs.Numbering as numbering;
 ghost use Rattle.lx_list.specs.Numbering.{number_step};
 ghost use Rattle.lx_list.specs.Laws.{IsRenumbered};
 ghost use Rattle.lx_list.specs.Began.{BeganNumbered};
+ghost use Rattle.lx_list.specs.Parts.{AreParts, AreSmall, part_numbered};
 
 use crate::changing::number_item;
 use crate::kinds::is_list_at;
 use crate::nesting::is_nesting;
-use crate::standing::stand_still;
+use crate::parts::{Part, part_of};
+use crate::touched::{are_few, touched_lists};
+use crate::weighing::weigh_parts;
 use lx_blocks::ready;
 use lx_draft::Draft;
 use lx_edit::children_of;
@@ -28,7 +32,7 @@ use lx_node::{Extra, Fault, Fields, Key, NoMemory};
 use std::alloc::Global;
 
 /// The number that comes after an item.
-fn following(number: u32, nests: bool) -> u32
+pub(crate) fn following(number: u32, nests: bool) -> u32
     requires { number + 1 < 2 ^ 32 }
     ensures { result ≡ (if nests then number else number + 1) }
 {
@@ -36,7 +40,7 @@ fn following(number: u32, nests: bool) -> u32
 }
 
 /// The number with which a list begins.
-fn start_of(links: &Links, list: Key) -> u32
+pub(crate) fn start_of(links: &Links, list: Key) -> u32
     ensures start { result ≡ numbering.start_at (lookups.fields_of links.now list) }
     ensures sound { Sound links.now }
 {
@@ -113,24 +117,71 @@ fn number_lists(alloc: Global, draft: &mut Draft, lists: &[Key]) -> Result<(), F
     Ok(())
 }
 
-/// Takes the counts of all items at once, and what they write, where the lists are as they were when the draft began: each
-/// item has its number then. It answers whether it did. Where it didn't, some list may not be numbered, or a limit would be
-/// passed on the way.
-#[tactic(auto, using(crate::proofs::Rewritten::number_rewritten))]
-fn number_standing(draft: &mut Draft) -> bool
+/// Gives the items of parts their numbers.
+#[tactic(auto, unfolding(lx_edit::specs::InTurn::in_turn))]
+fn number_parts(alloc: Global, draft: &mut Draft, parts: &[Part]) -> Result<(), Fault>
+    requires small { AreSmall parts.now }
+    ensures { Does (in_turn part_numbered parts.now draft.old) draft.new result }
+{
+    for part in parts {
+        number_items(alloc, draft, &part.keys, part.number)?;
+    }
+    Ok(())
+}
+
+/// The parts of lists. None, where a number is too great for a machine.
+fn parts_of(alloc: Global, draft: &Draft, lists: &[Key]) -> Result<Option<Vec<Part>>, NoMemory>
+    requires since { BeganNumbered draft.now }
+    requires order { IsForest draft.now.forest }
+    requires held { IsHeld kinds.may_hold draft.now.forest }
+    requires are_lists { (q : ℕ) → is_among q lists.now ≡ true → blocks.is_at kinds.is_list draft.now.forest q ≡ true }
+    ensures { IfOk result (λ found. IfSome found (λ parts. AreParts draft.now.forest lists.now parts.items)) }
+{
+    let mut parts = Vec::new(alloc);
+    for list in lists {
+        let Some(part) = part_of(alloc, draft, *list)? else {
+            return Ok(None);
+        };
+        parts.push(part)?;
+    }
+    Ok(Some(parts))
+}
+
+/// Takes the counts at once of all items but those of the touched lists that may not have their numbers, and what they
+/// write. It answers those that are left. Where a limit would be passed on the way, or much is marked, it does nothing, and
+/// answers none.
+fn number_untouched(alloc: Global, draft: &mut Draft) -> Result<Option<Vec<Part>>, NoMemory>
     requires since { BeganNumbered draft.old }
     requires ready { IsReady draft.old }
     requires held { IsHeld kinds.may_hold draft.old.forest }
     requires suited { IsSuited draft.old.forest }
-    ensures done { IsTrue result → number_step draft.old ≡ Ok draft.new }
-    ensures same { result ≡ false → draft.new ≡ draft.old }
+    ensures done { IfOk result (λ left. IfSome left (λ parts. number_step draft.old ≡ in_turn part_numbered parts.items draft.new)) }
+    ensures small { IfOk result (λ left. IfSome left (λ parts. AreSmall parts.items)) }
+    ensures same { IfOk result (λ left. IfNone left (draft.new ≡ draft.old)) }
 {
-    if !stand_still(draft) {
-        return false;
+    if !are_few(draft.marks()) {
+        return Ok(None);
     }
-    let items = draft.links().items();
-    let characters = draft.links().item_characters();
-    draft.rewrite(items, characters)
+    let lists = touched_lists(alloc, draft)?;
+    let Some(parts) = parts_of(alloc, draft, &lists)? else {
+        return Ok(None);
+    };
+    let (loose_items, loose_characters) = draft.loose_items()?;
+    let links = draft.links();
+    let items = links.items();
+    let characters = links.item_characters();
+    let Some(own) = weigh_parts(links, &parts) else {
+        return Ok(None);
+    };
+    if !draft.may_write(items, characters) {
+        return Ok(None);
+    }
+    let others = items - loose_items - own.items;
+    if draft.rewrite(others, characters - loose_characters - own.characters) {
+        Ok(Some(parts))
+    } else {
+        Ok(None)
+    }
 }
 
 /// Gives the items of all lists their numbers.
@@ -158,9 +209,9 @@ pub fn number_all(alloc: Global, draft: &mut Draft) -> Result<(), Fault>
     number_tree(alloc, draft)
 }
 
-/// The same as `number_all`, and faster on a draft that began with a forest in which each item has its number. Where there
-/// are no items it does nothing, and no node is looked at; where no list and no item is marked itself, only the keys that
-/// are marked are. Otherwise it is `number_all`.
+/// The same as `number_all`, and faster on a draft that began with a forest in which each item has its number: it walks
+/// the items of those lists alone that are marked themselves, or of which a child is. Where there are no items, no node is
+/// looked at, and where there are no such lists only the keys that are marked are, and what was taken out of the tree.
 ///
 /// It is refused for the same causes as `number_all`.
 #[tactic(auto, unfolding(crate::specs::Numbering::number_step), using(crate::proofs::Renumbers::number_lies, crate::proofs::Renumbered::renumbered, crate::proofs::Itemless::number_itemless))]
@@ -174,8 +225,8 @@ pub fn number(alloc: Global, draft: &mut Draft) -> Result<(), Fault>
     if draft.links().items() == 0 {
         return Ok(());
     }
-    if number_standing(draft) {
-        return Ok(());
+    match number_untouched(alloc, draft)? {
+        Some(parts) => number_parts(alloc, draft, &parts),
+        None => number_tree(alloc, draft),
     }
-    number_all(alloc, draft)
 }
