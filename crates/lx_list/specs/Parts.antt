@@ -57,10 +57,11 @@ AreParts f lists parts = ⊥
 abbrev pub part_numbered : Part → Working → Result Working Cause
 part_numbered part = numbered_from part.number part.keys.items
 
--- how many items a part has, and how many scalar values are in their strings
+-- how many items a part has
 abbrev pub items_of : Forest → Part → ℕ
 items_of f part = sum_by (own_weight items_in f) part.keys.items
 
+-- how many scalar values are in their strings
 abbrev pub characters_of : Forest → Part → ℕ
 characters_of f part = sum_by (own_weight item_characters_in f) part.keys.items
 
@@ -68,6 +69,7 @@ characters_of f part = sum_by (own_weight item_characters_in f) part.keys.items
 abbrev pub IsSmall : Part → Type 0
 IsSmall part = part.number + length part.keys.items < 2 ^ 32
 
+-- the same of each of some parts
 abbrev pub AreSmall : List Part → Type 0
 AreSmall [] = Unit {0}
 AreSmall (part ∷ parts) = IsSmall part × AreSmall parts

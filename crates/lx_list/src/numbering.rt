@@ -148,8 +148,8 @@ fn parts_of(alloc: Global, draft: &Draft, lists: &[Key]) -> Result<Option<Vec<Pa
 }
 
 /// Takes the counts at once of all items but those of the touched lists that may not have their numbers, and what they
-/// write. It answers those that are left. Where a limit would be passed on the way, or much is marked, it does nothing, and
-/// answers none.
+/// write. It answers those that are left. Where a limit would be passed on the way, or many lists are touched, it does
+/// nothing, and answers none.
 fn number_untouched(alloc: Global, draft: &mut Draft) -> Result<Option<Vec<Part>>, NoMemory>
     requires since { BeganNumbered draft.old }
     requires ready { IsReady draft.old }
@@ -159,7 +159,7 @@ fn number_untouched(alloc: Global, draft: &mut Draft) -> Result<Option<Vec<Part>
     ensures small { IfOk result (λ left. IfSome left (λ parts. AreSmall parts.items)) }
     ensures same { IfOk result (λ left. IfNone left (draft.new ≡ draft.old)) }
 {
-    if !are_few(draft.marks()) {
+    if !are_few(draft.links(), draft.marks()) {
         return Ok(None);
     }
     let lists = touched_lists(alloc, draft)?;
@@ -209,9 +209,10 @@ pub fn number_all(alloc: Global, draft: &mut Draft) -> Result<(), Fault>
     number_tree(alloc, draft)
 }
 
-/// The same as `number_all`, and faster on a draft that began with a forest in which each item has its number: it walks
-/// the items of those lists alone that are marked themselves, or of which a child is. Where there are no items, no node is
-/// looked at, and where there are no such lists only the keys that are marked are, and what was taken out of the tree.
+/// The same as `number_all`, and faster on a draft that began with a forest in which each item has its number: of lists that
+/// are marked themselves, or of which a child is, it walks the items from the first such child on, until one behind the last
+/// has its number. Where there are no items, no node is looked at. Where there are no such lists only the keys that are marked
+/// are, and what was taken out of the tree. Where there are many, it is `number_all`.
 ///
 /// It is refused for the same causes as `number_all`.
 #[tactic(auto, unfolding(crate::specs::Numbering::number_step), using(crate::proofs::Renumbers::number_lies, crate::proofs::Renumbered::renumbered, crate::proofs::Itemless::number_itemless))]

@@ -15,13 +15,36 @@ use lx_node::{Key, NoMemory};
 use std::alloc::Global;
 use std::cmp::Ordering;
 
-/// How many leaves, and how many elements, may be marked where lists are looked for by their marks. Each list takes a look
-/// at all marks, so beyond it a walk through the tree is faster.
-const MOST_MARKS: u32 = 64;
+/// How many marks may be of lists where these are looked for by their marks. Each such list takes a look at all marks, so
+/// beyond it a walk through the tree is faster.
+const MOST_OF_LISTS: u32 = 64;
 
-/// Whether so few are marked.
-pub(crate) fn are_few(marks: &Marks) -> bool {
-    marks.leaf_at(MOST_MARKS).is_none() && marks.element_at(MOST_MARKS).is_none()
+/// Whether a key is that of a list, or of a child of one.
+fn is_of_a_list(links: &Links, key: Key) -> bool {
+    match links.parent(key) {
+        Some(parent) => is_list_at(links, key) || is_list_at(links, parent),
+        None => is_list_at(links, key),
+    }
+}
+
+/// Whether few of the elements that are marked themselves are of lists.
+fn few_are_of_lists(links: &Links, marks: &Marks) -> bool {
+    let mut left = MOST_OF_LISTS;
+    for (key, flag) in marks.elements() {
+        if *flag && is_of_a_list(links, *key) {
+            if left == 0 {
+                return false;
+            }
+            left -= 1;
+        }
+    }
+    true
+}
+
+/// Whether so few marks are of lists that these are looked for by them. Where few elements are marked at all, none is
+/// looked at.
+pub(crate) fn are_few(links: &Links, marks: &Marks) -> bool {
+    marks.element_at(MOST_OF_LISTS).is_none() || few_are_of_lists(links, marks)
 }
 
 /// The place at which a list of the root's tree comes among keys that are kept in preorder: none where it is there.
