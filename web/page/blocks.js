@@ -118,11 +118,7 @@ export function liftedBy(hosts, selection) {
   const block = blockAt(hosts, selection.anchor);
   if (block === null || !isAtStart(hosts, selection.anchor, block)) return null;
   if (block.attributes.has('data-indent')) return 'outdent';
-  if (isItem(block)) {
-    const isEmptyAtEnd = block.children.length === 0 && block === block.parent.children.at(-1);
-    if (indexOf(block) > 0 && !isEmptyAtEnd) return null;
-    return isItem(block.parent.parent) ? 'outdent' : 'block-paragraph';
-  }
+  if (isItem(block) && isItem(block.parent.parent)) return 'outdent';
   return block.tag === 'p' ? null : 'block-paragraph';
 }
 

@@ -11,12 +11,11 @@ export const blockCommands = {
   'block-quote': { new: 'quote' },
 };
 
-/** One can always type before and after a table, also in a cell, and after a rule. */
-const rules = [
-  { on: 'table', if: [{ next: null }], do: [{ after: { type: 'paragraph' } }] },
-  { on: 'table', if: [{ previous: null }], do: [{ before: { type: 'paragraph' } }] },
-  { on: 'horizontalrule', if: [{ next: null }], do: [{ after: { type: 'paragraph' } }] },
-];
+/** One can always type before and after a table or a rule, also in a cell. */
+const rules = ['table', 'horizontalrule'].flatMap(on => [
+  { on, if: [{ next: null }], do: [{ after: { type: 'paragraph' } }] },
+  { on, if: [{ previous: null }], do: [{ before: { type: 'paragraph' } }] },
+]);
 
 const listeners = Object.entries(blockCommands).map(([on, step]) => ({
   on,

@@ -141,6 +141,12 @@ KEYS = [
     ('Left and Right over a rule', lambda page: (
         ruled(page), page.keys(['home', 'arrow_left', 'A', 'arrow_right', 'B'])),
      '<p><span>oneA</span></p><hr data-lexical-decorator="true"><p><span>Btwo</span></p>'),
+    ('before a rule that begins the document', lambda page: page.keys(
+        [*'---', 'enter', *'two', 'arrow_up', 'A', 'arrow_down', 'home', 'B']),
+     '<div><p><span>A</span></p><hr data-lexical-decorator="true"><p><span>Btwo</span></p></div>'),
+    ('before a rule that begins a cell', lambda page: (
+        table(page, 1, 1, ['---']), page.keys(['enter', *'two', 'home', 'arrow_left', 'A'])),
+     '<td><p><span>A</span></p><hr data-lexical-decorator="true"><p><span>two</span></p></td>'),
     ('Up and Down in a table', lambda page: (
         table(page, 3, 2, 'abcdef'), page.keys(['home', 'arrow_up', '1', 'arrow_up', '2', *['arrow_down'] * 2, '3'])),
      '<span>a</span></p></td><td><p><span>b2</span></p></td></tr><tr><td><p><span>c</span></p></td><td><p><span>1d'
@@ -183,6 +189,7 @@ MOUSE = [
 ]
 
 NUMBERED = [*'1. a', 'enter', *'b', 'enter', *'c', 'enter', *'d']
+BULLETS = [*'- a', 'enter', *'b', 'enter', *'c', 'arrow_up', 'home']
 
 LISTS = [
     ('one item leaves its list, and the numbers go on', lambda page: (
@@ -198,6 +205,19 @@ LISTS = [
         [*'- a', 'enter', 'backspace', *'b']), '<li value="1"><span>a</span></li></ul><p><span>b</span></p></div>'),
     ('and again goes back to the item before', lambda page: page.keys([*'- a', 'enter', *['backspace'] * 2, *'b']),
      '<div><ul><li value="1"><span>ab</span></li></ul></div>'),
+    ('Backspace at the start of an item takes its bullet away', lambda page: page.keys(
+        [*BULLETS, 'backspace', *'X']),
+     '<div><ul><li value="1"><span>a</span></li></ul><p><span>Xb</span></p><ul><li value="1"><span>c</span></li>'),
+    ('and again joins it with the item before', lambda page: page.keys([*BULLETS, *['backspace'] * 2, *'X']),
+     '<div><ul><li value="1"><span>aXb</span></li><li value="2"><span>c</span></li></ul></div>'),
+    ('one undo gives the bullet back', lambda page: page.keys([*BULLETS, 'backspace', 'control+z', *'X']),
+     '<div><ul><li value="1"><span>a</span></li><li value="2"><span>Xb</span></li><li value="3"><span>c</span></li>'),
+    ('an item below another one goes up first', lambda page: page.keys(
+        [*'- a', 'enter', 'tab', *'b', 'enter', *'c', 'home', 'backspace', *'X']),
+     '<ul><li value="1"><span>b</span></li></ul></li><li value="2"><span>Xc</span></li></ul></div>'),
+    ('and then its bullet goes', lambda page: page.keys(
+        [*'- a', 'enter', 'tab', *'b', 'enter', *'c', 'home', *['backspace'] * 2, *'X']),
+     '<ul><li value="1"><span>b</span></li></ul></li></ul><p><span>Xc</span></p></div>'),
 ]
 
 PASTED = [
