@@ -115,7 +115,7 @@ function selectedLines(page) {
  */
 export function stateOf(page) {
   const [line] = selectedLines(page);
-  const isFromRight = line !== undefined && getComputedStyle(page.view.elementOf(line)).direction === 'rtl';
+  const isFromRight = line !== undefined && page.view.elementOf(line).matches(':dir(rtl)');
   return {
     ...around(page),
     direction: line?.attributes.get('dir') ?? null,

@@ -35,21 +35,25 @@ function isPartSeen() {
 export function bringInSight(page, begins = () => {}) {
   requestAnimationFrame(() => {
     begins();
-    scrollToCaret(page);
+    if (!scrollToCaret(page)) return;
     requestAnimationFrame(() => scrollToCaret(page)); // blocks that came in sight may be higher than was guessed
   });
 }
 
-/** @param {import('./page.js').Page} page */
+/**
+ * Whether the window had to be scrolled.
+ * @param {import('./page.js').Page} page
+ */
 function scrollToCaret(page) {
   const place = page.view.element.contains(getSelection().focusNode) && placeOfCaret(getSelection());
-  if (!place) return;
+  if (!place) return false;
   const bar = document.getElementById('bar');
   const bars = [bar, ...bar.querySelectorAll('.table-bar')].map(each => each.getBoundingClientRect().bottom);
   const ceiling = Math.max(0, ...bars) + ROOM / 2, floor = document.documentElement.clientHeight - ROOM;
   const tooHigh = place.top - ceiling, tooLow = place.bottom - floor;
-  if (tooHigh < 0) scrollBy({ top: tooHigh, behavior: 'instant' });
-  else if (tooLow > 0) scrollBy({ top: Math.min(tooLow, tooHigh), behavior: 'instant' });
+  const top = tooHigh < 0 ? tooHigh : tooLow > 0 ? Math.min(tooLow, tooHigh) : 0;
+  if (top !== 0) scrollBy({ top, behavior: 'instant' });
+  return top !== 0;
 }
 
 /**

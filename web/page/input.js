@@ -73,7 +73,8 @@ export function listenToInput(page) {
       return;
     }
     const isTab = event.key === 'Tab' && !event.ctrlKey && !event.metaKey && !isToLeave;
-    const line = isTab ? tabbed(page, event.shiftKey) : keys[Object.keys(keys).find(each => isPressed(event, each))];
+    const chord = isModHeld(event) ? Object.keys(keys).find(each => isPressed(event, each)) : undefined;
+    const line = isTab ? tabbed(page, event.shiftKey) : chord && keys[chord];
     if (!line) return;
     event.preventDefault();
     page.act(line);
@@ -83,7 +84,8 @@ export function listenToInput(page) {
 /** @param {InputEvent} event */
 function input(page, event) {
   const { inputType } = event, text = event.data ?? event.dataTransfer?.getData('text/plain') ?? '';
-  const target = targetOf(page, event), selected = target ?? page.selected;
+  const isTyped = inputType === 'insertText' && event.getTargetRanges()[0]?.collapsed === true; // as nearly all is
+  const target = isTyped ? null : targetOf(page, event), selected = target ?? page.selected;
   // Where there is a caret, and a word is meant, a keyboard corrects what was typed before.
   const isCorrection = target !== null && !isCaret(target) && isCaret(page.selected);
   if (inputType.startsWith('insert') && /[\r\n]/.test(text)) return insert(page, { text }, selected);

@@ -11,7 +11,9 @@ import { blockOf, cellOf, edgeOf, indexOf, isBefore, isBlock, nearest } from '..
 export const isRange = selection => Array.isArray(selection?.anchor);
 
 /** @type {(selection: Selection) => boolean} */
-export const isCaret = selection => isRange(selection) && String(selection.anchor) === String(selection.focus);
+export const isCaret = selection => (
+  isRange(selection) && selection.anchor.every((part, index) => part === selection.focus[index])
+);
 
 /** @type {(point: ReplyPoint) => Selection} */
 export const caretAt = point => ({ anchor: point, focus: point });
@@ -117,7 +119,7 @@ export function textsIn(hosts, range) {
  * @returns {Selection}
  */
 export function within(hosts, selection) {
-  if (!isRange(selection)) return selection;
+  if (!isRange(selection) || isCaret(selection)) return selection;
   const ends = inOrder(hosts, selection);
   const [ours, theirs] = ends.map(([key]) => framesAround(hosts.ofKey(key)));
   if (ours[0] === theirs[0]) return selection;

@@ -59,8 +59,9 @@ export function tableToolbar(page, element) {
   followArrows(bar);
   showSelectedCells(page);
   follow(page, () => {
-    bar.hidden = tableAt(page) === null;
-    if (bar.hidden) return;
+    const isHidden = tableAt(page) === null;
+    if (bar.hidden !== isHidden) bar.hidden = isHidden; // to hide it once more would have its style looked up anew
+    if (isHidden) return;
     for (const button of bar.querySelectorAll('.tool')) {
       const { isPressed, isOff } = controls[button.dataset.command];
       if (isPressed) button.ariaPressed = String(isPressed(page));

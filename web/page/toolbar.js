@@ -5,7 +5,7 @@ import { icon } from './icons.js';
 import { linkBubble } from './link-bubble.js';
 import { linkDialog } from './link-dialog.js';
 import { mark, menu } from './menu.js';
-import { isPressed } from './shortcuts.js';
+import { isModHeld, isPressed } from './shortcuts.js';
 import { tableSize } from './table-size.js';
 import { follow, followArrows, group, stopAt, tool, toolsSeen } from './tools.js';
 
@@ -70,6 +70,7 @@ export function toolbar(page, element) {
   });
   page.view.element.addEventListener('keydown', event => {
     if (event.defaultPrevented || event.isComposing) return; // the page itself knows some of the keys
+    if (!isModHeld(event) && !event.altKey) return;
     if (isPressed(event, 'Alt+F10')) bar.querySelector('.tool[tabindex="0"]').focus(); // Tab itself is typed
     const known = namesWithKeys.find(each => isPressed(event, controls[each].keys));
     const name = isPressed(event, 'Mod+K') ? 'link' : known;
@@ -80,12 +81,15 @@ export function toolbar(page, element) {
 
   followArrows(bar);
   followWidth(bar);
+  let told = '';
   follow(page, () => {
-    const state = stateOf(page);
+    page.view.element.classList.toggle('is-empty', isEmpty(page));
+    const state = stateOf(page), shown = JSON.stringify(state);
+    if (shown === told) return; // as after most keys
+    told = shown;
     showState(bar, state);
     for (const { element: entries } of menus) mark(entries, name => Boolean(controls[name].isPressed?.(state)));
     dress(blockMenu.button, typeShown(state));
-    page.view.element.classList.toggle('is-empty', isEmpty(page));
     dress(alignMenu.button, controls[alignments.find(name => controls[name].isPressed(state)) ?? 'align-left']);
   });
   return bar;

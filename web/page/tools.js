@@ -69,23 +69,37 @@ export function stopAt(bar, button) {
 }
 
 /**
+ * What follows a page, and what has it look soon. All share one request for a frame: each costs a key some time.
+ * @type {WeakMap<import('./page.js').Page, { listeners: (() => void)[], soon: () => void }>}
+ */
+const following = new WeakMap();
+
+/**
  * Calls a listener after acts, and when the caret has moved, at most once for each picture that the browser draws.
  * @param {import('./page.js').Page} page
  * @param {() => void} listener
  */
 export function follow(page, listener) {
+  const { listeners, soon } = following.get(page) ?? beginFollowing(page);
+  listeners.push(listener);
+  soon();
+}
+
+/** @param {import('./page.js').Page} page */
+function beginFollowing(page) {
+  /** @type {(() => void)[]} */
+  const listeners = [];
   let isWaiting = false;
   const soon = () => {
     if (isWaiting) return;
     isWaiting = true;
     requestAnimationFrame(() => {
       isWaiting = false;
-      listener();
+      for (const listener of listeners) listener();
     });
   };
   page.on('settled', soon);
-  document.addEventListener('selectionchange', () => {
-    if (page.view.element.contains(getSelection().anchorNode)) soon();
-  });
-  soon();
+  const begun = { listeners, soon };
+  following.set(page, begun);
+  return begun;
 }
