@@ -26,7 +26,7 @@ export class View {
   readonly hosts: Hosts;
 
   /** The element of host 0, inside the one that was given. */
-  readonly element: Element;
+  readonly element: HTMLElement;
 
   /** The same as `hosts.apply`: if an operation doesn't fit, it throws a `ContentError`, and nothing has changed. */
   apply(ops: readonly Operation[]): void;
@@ -35,10 +35,10 @@ export class View {
   hostAround(node: Node): Host | null;
 
   /** The outer element of a host. */
-  elementOf(host: Host): Element;
+  elementOf(host: Host): HTMLElement;
 
   /** The element that its children, or its text, are in: of a tag such as `mark>strong` the inner one. */
-  insideOf(host: Host): Element;
+  insideOf(host: Host): HTMLElement;
 
   /** Whether a node is one of the groups that the children of host 0 are in. They are in its element. */
   isGroup(node: Node | null): boolean;

@@ -17,7 +17,7 @@ import { safeProperties, safeSchemes } from './safe.js';
 /**
  * What shows a host: its outer element, the one that its children or its text are in, its text, and the line break at
  * its end.
- * @typedef {{ outer: Element, inside: Element, text: Text | null, ending: Element | null }} Drawn
+ * @typedef {{ outer: HTMLElement, inside: HTMLElement, text: Text | null, ending: Element | null }} Drawn
  */
 
 export class View {

@@ -5,9 +5,9 @@ import { placeOf } from '../selection.js';
 import { areasOf, tableOf } from './cells.js';
 import { bringInSight, placeOfCaret } from './in-sight.js';
 import { placeUnder } from './places.js';
-import { blockAt, isRange } from './ranges.js';
+import { blockAt, isOfCells, isRange, parentOf } from './ranges.js';
 
-/** @typedef {import('./page.js').Page} Page */
+/** @typedef {import('./page.js').AnyPage} Page */
 /** @typedef {import('../hosts.js').Host} Host */
 /** @typedef {import('../dom.js').View} View */
 /** @typedef {import('./places.js').Place} Place */
@@ -28,7 +28,7 @@ export function listenToArrows(page) {
       if (event.key !== 'Shift') [column, isAtLineEnd] = [null, event.key === 'End'];
       return;
     }
-    const caret = placeOfFocus(element.ownerDocument.getSelection(), isAtLineEnd);
+    const browser = element.ownerDocument.getSelection(), caret = browser && placeOfFocus(browser, isAtLineEnd);
     if (caret === null) return;
     column ??= caret.left;
     if (!(event.shiftKey ? extend(page, isDown, caret) : move(page, isDown, caret, column))) return;
@@ -47,10 +47,10 @@ export function listenToArrows(page) {
  */
 function placeOfFocus({ focusNode, focusOffset }, isAtLineEnd) {
   if (focusNode === null) return null;
-  if (isAtLineEnd || focusNode.nodeType !== Node.TEXT_NODE || focusOffset === focusNode.data.length) {
+  if (isAtLineEnd || !(focusNode instanceof Text) || focusOffset === focusNode.data.length) {
     return placeOfCaret({ focusNode, focusOffset });
   }
-  const next = focusNode.ownerDocument.createRange();
+  const next = document.createRange();
   next.setStart(focusNode, focusOffset);
   next.setEnd(focusNode, focusOffset + 1);
   return next.getClientRects()[0] ?? placeOfCaret({ focusNode, focusOffset });
@@ -64,15 +64,14 @@ function placeOfFocus({ focusNode, focusOffset }, isAtLineEnd) {
  */
 function extend(page, isDown, caret) {
   const { selected, view: { hosts } } = page;
-  if (!selected || selected.keys) return false;
-  const isOfCells = selected.table !== undefined;
-  const [anchor, focus] = [selected.anchor, selected.focus].map(end => cellOf(hosts.ofKey(isOfCells ? end : end[0])));
-  if (focus === null || tableOf(anchor) !== tableOf(focus)) return false;
-  if (!isOfCells && !isOnLastLine(page, isDown, caret)) return false;
+  const keys = isRange(selected) ? [selected.anchor[0], selected.focus[0]]
+    : isOfCells(selected) ? [selected.anchor, selected.focus] : [];
+  const [anchor, focus] = keys.map(key => cellOf(hosts.ofKey(key) ?? null)), table = focus && tableOf(focus);
+  if (!anchor || !focus || !table || tableOf(anchor) !== table) return false;
+  if (isRange(selected) && !isOnLastLine(page, selected.focus, isDown, caret)) return false;
   const next = cellBeyond(focus, isDown);
-  if (next === null) return isOfCells;
-  const cells = { anchor: anchor.key, focus: next.key, table: tableOf(focus).key };
-  page.act({ update: [{ select: cells }] }, null);
+  if (next === null) return isOfCells(selected);
+  page.act({ update: [{ select: { anchor: anchor.key, focus: next.key, table: table.key } }] }, null);
   return true;
 }
 
@@ -86,7 +85,7 @@ function extend(page, isDown, caret) {
 function move(page, isDown, caret, column) {
   const { selected, view } = page;
   const block = isRange(selected) ? blockAt(view.hosts, selected.focus) : null;
-  if (block === null || !isOnLastLine(page, isDown, caret)) return false;
+  if (block === null || !isRange(selected) || !isOnLastLine(page, selected.focus, isDown, caret)) return false;
   const target = targetBeyond(view, block, isDown, column), browser = view.element.ownerDocument.getSelection();
   if (target === null || browser === null) return false;
   const place = placeIn(view, target, isDown, column);
@@ -97,11 +96,12 @@ function move(page, isDown, caret, column) {
 /**
  * Whether the caret is on the last line of its block, or on the first on the way up.
  * @param {Page} page
+ * @param {import('../replies.js').ReplyPoint} focus
  * @param {boolean} isDown
  * @param {Line} caret
  */
-function isOnLastLine({ selected, view }, isDown, caret) {
-  const block = blockAt(view.hosts, selected.focus);
+function isOnLastLine({ view }, focus, isDown, caret) {
+  const block = blockAt(view.hosts, focus);
   if (block === null) return false;
   const inside = view.element.ownerDocument.createRange();
   inside.selectNodeContents(view.elementOf(block));
@@ -122,11 +122,10 @@ function targetBeyond(view, block, isDown, column) {
   let isAstray = false;
   for (let at = block; ;) {
     const next = siblingBeyond(at, isDown), cell = cellOf(at);
-    if (next === null && cell === null) return null;
     if (next === null) {
-      const other = cellBeyond(cell, isDown);
-      if (other !== null) return other;
-      at = tableOf(cell);
+      const table = tableOf(cell), other = cell && cellBeyond(cell, isDown);
+      if (table === null || other !== null) return other;
+      at = table;
     } else if (next.tag === 'table') {
       return cellOfEdge(view, next, isDown, column);
     } else if (next.tag === 'hr') {
@@ -145,7 +144,7 @@ function targetBeyond(view, block, isDown, column) {
  * @returns {Host | null}
  */
 function siblingBeyond(host, isDown) {
-  for (let at = host; at.parent !== null && !isCell(at); at = at.parent) {
+  for (let at = host; at.parent !== null && !isCell(at); at = parentOf(at)) {
     const sibling = at.parent.children[indexOf(at) + (isDown ? 1 : -1)];
     if (sibling) return sibling;
   }
@@ -159,7 +158,8 @@ function siblingBeyond(host, isDown) {
  * @returns {Host | null}
  */
 function cellBeyond(cell, isDown) {
-  const areas = areasOf(tableOf(cell)), from = areas.find(area => area.cell === cell);
+  const areas = areasOf(/** @type {Host} */ (tableOf(cell)));
+  const from = /** @type {import('./cells.js').Area} */ (areas.find(area => area.cell === cell));
   const row = isDown ? from.bottom + 1 : from.top - 1;
   const found = areas.find(({ top, bottom, left, right }) => (
     top <= row && row <= bottom && left <= from.left && from.left <= right
@@ -177,7 +177,7 @@ function cellBeyond(cell, isDown) {
  */
 function cellOfEdge(view, table, isDown, column) {
   const areas = areasOf(table), row = isDown ? 0 : table.children.length - 1;
-  const distance = ({ cell }) => {
+  const distance = (/** @type {import('./cells.js').Area} */ { cell }) => {
     const { left, right } = view.elementOf(cell).getBoundingClientRect();
     return Math.max(left - column, column - right, 0);
   };
@@ -198,7 +198,7 @@ function placeIn(view, host, isDown, column) {
   if (edge === null) return null;
   const [focusNode, focusOffset] = edge, element = view.elementOf(host);
   const block = blockAt(view.hosts, edgeOf(host, isDown, true)) ?? host;
-  view.elementOf(block).scrollIntoView({ block: 'nearest', behavior: 'instant' });
+  view.elementOf(block).scrollIntoView({ block: 'nearest' });
   const line = placeOfCaret({ focusNode, focusOffset }), { left, right } = element.getBoundingClientRect();
   const place = placeUnder(view, Math.max(left + 1, Math.min(column, right - 1)), (line.top + line.bottom) / 2);
   return place && element.contains(place[0]) ? place : edge;

@@ -1,20 +1,28 @@
 // The types of blocks: paragraphs, headings, quotes. All selected lines are made one, and items leave their lists.
 import { edgeOf, indexOf, isBlock, isList } from '../hosts-order.js';
-import { blockAt, caretAt, isAtStart, isCaret, linesIn } from './ranges.js';
+import { blockAt, caretAt, isAtStart, isCaret, linesIn, parentOf } from './ranges.js';
 import { blockCommands } from './rules.js';
 
 /** @typedef {import('../hosts.js').Host} Host */
 /** @typedef {import('../hosts.js').Hosts} Hosts */
+/** @typedef {import('../lines.js').Alignment} Alignment */
+/** @typedef {import('../lines.js').Direction} Direction */
 /** @typedef {import('../lines.js').Line} Line */
+/** @typedef {import('../lines.js').ListType} ListType */
 /** @typedef {import('../lines.js').Step} Step */
 /** @typedef {import('../lines.js').Selection} Selection */
+/** @typedef {(host: Host, as: string) => Step} Made the step that makes what takes a block's place */
 
-const isItem = host => host.tag === 'li';
+/** @type {(host: Host | null) => boolean} */
+const isItem = host => host?.tag === 'li';
 
-/** How many lists are around an item. */
+/**
+ * How many lists are around an item.
+ * @param {Host} item
+ */
 function depthOf(item) {
   let depth = 0;
-  for (let at = item; at.tag === 'li' || isList(at); at = at.parent) depth += isItem(at) ? 1 : 0;
+  for (let at = item; isItem(at) || isList(at); at = parentOf(at)) depth += isItem(at) ? 1 : 0;
   return depth;
 }
 
@@ -23,10 +31,11 @@ function depthOf(item) {
  * @param {Host} host
  */
 export function fieldsOf({ attributes }) {
+  /** @type {{ format?: Alignment, indent?: number, direction?: Direction }} */
   const fields = {};
-  if (attributes.has('data-align')) fields.format = attributes.get('data-align');
+  if (attributes.has('data-align')) fields.format = /** @type {Alignment} */ (attributes.get('data-align'));
   if (attributes.has('data-indent')) fields.indent = Number(attributes.get('data-indent'));
-  if (attributes.has('dir')) fields.direction = attributes.get('dir');
+  if (attributes.has('dir')) fields.direction = /** @type {Direction} */ (attributes.get('dir'));
   return fields;
 }
 
@@ -46,18 +55,21 @@ export function blocksMade(hosts, selection, name, cells) {
   const [block] = blocks;
   const isPlain = blocks.length === 1 && !isItem(block) && Object.keys(fieldsOf(block)).length === 0;
   if (isPlain && cells.length === 0) return { lines: [{ dispatch: name }], isToRepeat: false };
-  const { new: type, fields = {} } = blockCommands[name];
-  const made = (host, as) => ({ new: type, fields: { ...fieldsOf(host), ...fields }, as });
+  const command = blockCommands[name], own = 'fields' in command ? command.fields : {};
+  /** @type {Made} */
+  const made = (host, as) => /** @type {Step} */ ({ new: command.new, fields: { ...fieldsOf(host), ...own }, as });
   return { lines: [{ update: stepsFor(blocks, made) }], isToRepeat: false };
 }
 
 /**
  * @param {Host[]} blocks
- * @param {(host: Host, as: string) => Step} made the step that makes what takes a block's place
+ * @param {Made} made
  * @returns {Step[]}
  */
 function stepsFor(blocks, made) {
-  const steps = [], lists = new Set(blocks.filter(isItem).map(({ parent }) => parent));
+  /** @type {Step[]} */
+  const steps = [];
+  const lists = new Set(blocks.filter(isItem).map(parentOf));
   blocks.forEach((block, index) => {
     const name = `block-${index}`;
     if (isItem(block)) return;
@@ -67,7 +79,10 @@ function stepsFor(blocks, made) {
   return steps;
 }
 
-/** Whether an item holds lists alone, and so has no number. */
+/**
+ * Whether an item holds lists alone, and so has no number.
+ * @type {(item: Host) => boolean}
+ */
 const isNesting = ({ children }) => children.length > 0 && isList(children[0]);
 
 /**
@@ -75,13 +90,16 @@ const isNesting = ({ children }) => children.length > 0 && isList(children[0]);
  * it, which go on with its numbers. What is left empty is removed.
  * @param {Host} list
  * @param {Set<Host>} leaving
- * @param {(host: Host, as: string) => Step} made
+ * @param {Made} made
  * @returns {Step[]}
  */
 function parted(list, leaving, made) {
-  const steps = [], items = list.children, parent = list.parent;
-  const first = items.findIndex(item => leaving.has(item));
-  let at = indexOf(list) + 1, rest = null, number = Number(items[first].attributes.get('value') ?? 1);
+  /** @type {Step[]} */
+  const steps = [];
+  const items = list.children, parent = parentOf(list), first = items.findIndex(item => leaving.has(item));
+  let at = indexOf(list) + 1, number = Number(items[first].attributes.get('value') ?? 1);
+  /** @type {string | null} the list that others go to */
+  let rest = null;
   items.slice(first).forEach((item, index) => {
     const name = `item-${item.key}`;
     if (leaving.has(item)) {
@@ -101,7 +119,10 @@ function parted(list, leaving, made) {
   return [...steps, ...items.filter(item => leaving.has(item)).map(({ key }) => ({ remove: key }))];
 }
 
-/** @param {Host} list */
+/**
+ * @param {Host} list
+ * @returns {ListType}
+ */
 export function typeOf(list) {
   if (list.tag === 'ol') return 'number';
   return list.children.some(({ attributes }) => attributes.get('role') === 'checkbox') ? 'check' : 'bullet';
@@ -118,7 +139,7 @@ export function liftedBy(hosts, selection) {
   const block = blockAt(hosts, selection.anchor);
   if (block === null || !isAtStart(hosts, selection.anchor, block)) return null;
   if (block.attributes.has('data-indent')) return 'outdent';
-  if (isItem(block) && isItem(block.parent.parent)) return 'outdent';
+  if (isItem(block) && isItem(parentOf(block).parent)) return 'outdent';
   return block.tag === 'p' ? null : 'block-paragraph';
 }
 
@@ -130,10 +151,11 @@ export function liftedBy(hosts, selection) {
  * @returns {Step[] | null}
  */
 export function pushedDown(hosts, selection) {
-  const block = isCaret(selection) ? blockAt(hosts, selection.anchor) : null;
+  if (!isCaret(selection)) return null;
+  const block = blockAt(hosts, selection.anchor);
   if (block === null || block.tag === 'p' || isItem(block) || block.children.length === 0) return null;
   if (!isAtStart(hosts, selection.anchor, block)) return null;
-  return [{ new: 'paragraph', as: 'before' }, { put: 'before', into: block.parent.key, at: indexOf(block) }];
+  return [{ new: 'paragraph', as: 'before' }, { put: 'before', into: parentOf(block).key, at: indexOf(block) }];
 }
 
 /**
@@ -145,7 +167,7 @@ export function pushedDown(hosts, selection) {
 export function emptyRemoved(hosts, selection) {
   const block = isCaret(selection) ? blockAt(hosts, selection.anchor) : null;
   if (block?.tag !== 'p' || block.children.length > 0) return null;
-  const next = block.parent.children[indexOf(block) + 1];
+  const next = parentOf(block).children[indexOf(block) + 1];
   if (!next || !(isBlock(next) || isList(next))) return null;
   return [{ select: caretAt(edgeOf(next, true)) }, { remove: block.key }];
 }
@@ -153,7 +175,7 @@ export function emptyRemoved(hosts, selection) {
 /**
  * The steps that align all selected lines.
  * @param {Host[]} blocks
- * @param {string} format
+ * @param {Alignment} format
  * @returns {Step[]}
  */
 export function aligned(blocks, format) {

@@ -1,18 +1,19 @@
 // Cells of a table: those that are selected, what they lose, and the next one.
 import { cellOf, edgeOf, indexOf, isBefore, isBlock, isCell, isList, nearest } from '../hosts-order.js';
-import { below, blockAt, caretAt, isAtStart, isCaret, isRange } from './ranges.js';
+import { below, blockAt, caretAt, isAtStart, isCaret, isOfCells, isRange, parentOf } from './ranges.js';
 
 /** @typedef {import('../hosts.js').Host} Host */
 /** @typedef {import('../hosts.js').Hosts} Hosts */
-/** @typedef {import('../lines.js').Line} Line */
+/** @typedef {import('../lines.js').Point} Point */
 /** @typedef {import('../lines.js').Step} Step */
 /** @typedef {import('../lines.js').Selection} Selection */
-/**
- * A cell, with its first and last row and column.
- * @typedef {{ cell: Host, top: number, left: number, bottom: number, right: number }} Area
- */
+/** @typedef {{ top: number, left: number, bottom: number, right: number }} Rectangle first and last rows and columns */
+/** @typedef {Rectangle & { cell: Host }} Area a cell, and where it stands */
 
-/** The table around a host, or null. */
+/**
+ * The table around a host, or null.
+ * @type {(host: Host | null) => Host | null}
+ */
 export const tableOf = host => nearest(host, ({ tag }) => tag === 'table');
 
 /**
@@ -21,10 +22,12 @@ export const tableOf = host => nearest(host, ({ tag }) => tag === 'table');
  * @returns {Area[]}
  */
 export function areasOf(table) {
-  const rows = table.children, areas = [], taken = rows.map(() => []);
+  /** @type {Area[]} */
+  const areas = [];
+  const rows = table.children, taken = rows.map(() => /** @type {boolean[]} */ ([]));
   rows.forEach((row, top) => {
     for (const cell of row.children) {
-      const span = name => Number(cell.attributes.get(name) ?? 1);
+      const span = (/** @type {string} */ name) => Number(cell.attributes.get(name) ?? 1);
       const width = span('colspan'), bottom = Math.min(top + span('rowspan'), rows.length) - 1;
       let left = 0;
       while (taken[top].slice(left, left + width).some(Boolean)) left += 1;
@@ -42,19 +45,19 @@ export function areasOf(table) {
  * @returns {Host[]}
  */
 export function cellsIn(hosts, selection) {
-  const table = selection?.table === undefined ? undefined : hosts.ofKey(selection.table);
-  if (!table) return [];
+  const table = isOfCells(selection) ? hosts.ofKey(selection.table) : undefined;
+  if (!table || !isOfCells(selection)) return [];
   const areas = areasOf(table);
-  const ends = areas.filter(({ cell }) => cell.key === selection.anchor || cell.key === selection.focus);
-  let around = null, inside = ends;
+  let inside = areas.filter(({ cell }) => cell.key === selection.anchor || cell.key === selection.focus);
   for (let count = 0; inside.length !== count;) { // it grows until no cell stands across its edge
     count = inside.length;
-    around = rectangleOf(inside);
+    const around = rectangleOf(inside);
     inside = areas.filter(area => meets(area, around));
   }
   return inside.map(({ cell }) => cell);
 }
 
+/** @type {(areas: Area[]) => Rectangle} */
 const rectangleOf = areas => ({
   top: Math.min(...areas.map(({ top }) => top)),
   left: Math.min(...areas.map(({ left }) => left)),
@@ -62,6 +65,7 @@ const rectangleOf = areas => ({
   right: Math.max(...areas.map(({ right }) => right)),
 });
 
+/** @type {(one: Rectangle, other: Rectangle) => boolean} */
 const meets = (one, other) => one.top <= other.bottom && other.top <= one.bottom &&
   one.left <= other.right && other.left <= one.right;
 
@@ -71,13 +75,13 @@ const meets = (one, other) => one.top <= other.bottom && other.top <= one.bottom
  * @returns {Step[]}
  */
 export function emptied(cells) {
-  const steps = cells.flatMap((cell, index) => [
+  const made = cells.flatMap((cell, index) => /** @type {Step[]} */ ([
     { new: 'paragraph', as: `cell-${index}` },
     { put: `cell-${index}`, into: cell.key, at: 0 },
-  ]);
-  const start = ['cell-0', 0, 'element'];
-  steps.push({ select: caretAt(start) });
-  return [...steps, ...cells.flatMap(cell => cell.children.map(({ key }) => ({ remove: key })))];
+  ]));
+  const start = /** @type {Point} */ (['cell-0', 0, 'element']);
+  const removed = cells.flatMap(cell => cell.children.map(({ key }) => ({ remove: key })));
+  return [...made, { select: caretAt(start) }, ...removed];
 }
 
 /**
@@ -103,7 +107,7 @@ export function formatted(cells, bit, formatOf) {
  * @returns {Host | undefined}
  */
 export function nextCell(cell, isBack) {
-  const cells = [...below(tableOf(cell), isCell)];
+  const cells = [...below(/** @type {Host} */ (tableOf(cell)), isCell)];
   return cells[cells.indexOf(cell) + (isBack ? -1 : 1)];
 }
 
@@ -113,8 +117,8 @@ export function nextCell(cell, isBack) {
  * @param {Selection} selection
  */
 export function cellAt(hosts, selection) {
-  if (!selection || selection.keys) return null;
-  return cellOf(hosts.ofKey(isRange(selection) ? selection.focus[0] : selection.focus) ?? null);
+  const key = isRange(selection) ? selection.focus[0] : isOfCells(selection) ? selection.focus : null;
+  return key === null ? null : cellOf(hosts.ofKey(key) ?? null);
 }
 
 /**
@@ -123,7 +127,7 @@ export function cellAt(hosts, selection) {
  * @returns {Step[]}
  */
 export function tableRemoved(table) {
-  const { children } = table.parent, at = indexOf(table);
+  const { children } = parentOf(table), at = indexOf(table);
   const next = children[at + 1], before = children[at - 1];
   const point = next ? edgeOf(next, true) : before ? edgeOf(before, false) : null;
   return [{ select: point && caretAt(point) }, { remove: table.key }];
@@ -138,11 +142,12 @@ export function tableRemoved(table) {
  * @returns {Step[] | null}
  */
 export function intoTable(hosts, selection, isBack) {
-  const block = isCaret(selection) ? blockAt(hosts, selection.anchor) : null;
+  if (!isCaret(selection)) return null;
+  const { anchor } = selection, block = blockAt(hosts, anchor);
   if (block === null) return null;
-  const { anchor } = selection, isAtEnd = () => !isBefore(hosts, anchor, edgeOf(block, false));
+  const isAtEnd = () => !isBefore(hosts, anchor, edgeOf(block, false));
   if (isBack ? !isAtStart(hosts, anchor, block) : !isAtEnd()) return null;
-  const { children } = block.parent, at = indexOf(block), step = isBack ? -1 : 1;
+  const { children } = parentOf(block), at = indexOf(block), step = isBack ? -1 : 1;
   const table = children[at + step], other = children[at - step];
   if (table?.tag !== 'table') return null;
   const isNeedless = block.children.length === 0 && other !== undefined && (isBlock(other) || isList(other));

@@ -11,6 +11,7 @@ import { blockAt, caretAt, inOrder, isCaret, isRange, placesOf } from './ranges.
 import { isEmpty, stepsOfSlice, stepsOfText, textOf } from './slices.js';
 import { withChecks } from './todo-marks.js';
 
+/** @typedef {import('./page.js').AnyPage} AnyPage */
 /** @typedef {import('./page.js').Page} Page */
 /** @typedef {import('../hosts.js').Hosts} Hosts */
 /** @typedef {import('../replies.js').Slice} Slice */
@@ -42,7 +43,7 @@ export function clipboard(page) {
 
 /**
  * Pasting alone, for a page whose core doesn't answer at once: there the browser copies what it shows.
- * @param {Page} page
+ * @param {AnyPage} page
  */
 export function pastes(page) {
   const { element } = page.view;
@@ -66,7 +67,7 @@ const isAddress = text => text !== undefined && /^(https?:\/\/|mailto:)[^\s<>"]+
 
 /**
  * Makes a link of what is selected, or inserts one. In a link an address is text.
- * @param {Page} page
+ * @param {AnyPage} page
  * @param {string} address
  */
 function link(page, address) {
@@ -88,7 +89,7 @@ function countPlainPastes(element) {
 }
 
 /**
- * @param {Page} page
+ * @param {AnyPage} page
  * @param {Event} event
  */
 function isWithin(page, { target }) {
@@ -113,7 +114,7 @@ export function put(page, data, event) {
 
 /**
  * Whether a range begins in the midst of a block, and whether it ends in one.
- * @param {Page} page
+ * @param {AnyPage} page
  */
 function openness({ selected, view: { hosts } }) {
   if (!isRange(selected)) return {};
@@ -130,14 +131,15 @@ function sliceNow(page) {
   const { editor, selected } = page;
   if (selected === null) return null;
   if (selected.table !== undefined) {
-    return sliceOfCells(page.view.hosts, editor.line({ show: 'state' }).state, /** @type {any} */ (selected));
+    const { state } = editor.line({ show: 'state' });
+    return state ? sliceOfCells(page.view.hosts, state, selected) : null;
   }
   const had = page.selection;
-  if (isSame(selected, had)) return editor.line({ show: 'slice' }).slice;
+  if (isSame(selected, had)) return editor.line({ show: 'slice' }).slice ?? null;
   // A script has asked for the copy, so the promise of the act is still to be kept. Nobody is told of these lines: what
   // is selected is the same after them.
   editor.line({ update: [{ select: selected }] });
-  const { slice } = editor.line({ show: 'slice' });
+  const { slice = null } = editor.line({ show: 'slice' });
   editor.line({ update: [{ select: placesOf(had) }] });
   return slice;
 }
@@ -153,7 +155,7 @@ function isSame(selected, told) {
 /**
  * What is on a clipboard or dropped, at its best: a slice of this page, HTML as a slice, or plain text. Null, with a
  * notice, where there is nothing for the page.
- * @param {Page} page
+ * @param {AnyPage} page
  * @param {DataTransfer | null} data
  * @returns {Content | null}
  */
@@ -168,7 +170,7 @@ export function contentOf(page, data) {
 }
 
 /**
- * @param {Page} page
+ * @param {AnyPage} page
  * @param {DataTransfer} data
  * @returns {Slice | null}
  */
@@ -211,7 +213,7 @@ function nothingIn({ files }) {
 
 /**
  * Inserts content in the place of what is selected, as one entry of the history.
- * @param {Page} page
+ * @param {AnyPage} page
  * @param {Content} content
  * @param {Selection} [selected]
  * @param {string[]} [tags]

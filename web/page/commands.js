@@ -7,20 +7,24 @@ import { formatBits, formatOf } from './formats.js';
 import { linked, linksIn, unlinked } from './link-lines.js';
 import { listsJoined } from './list-joining.js';
 import { outsideLink } from './outside-links.js';
-import { blockAt, caretAt, inOrder, isCaret, isRange, linesIn, textsIn, within } from './ranges.js';
+import { blockAt, caretAt, inOrder, isCaret, isRange, linesIn, parentOf, textsIn, within } from './ranges.js';
 import { blockCommands } from './rules.js';
 
 /** @typedef {import('../hosts.js').Host} Host */
 /** @typedef {import('../hosts.js').Hosts} Hosts */
+/** @typedef {import('../lines.js').DispatchLine} DispatchLine */
 /** @typedef {import('../lines.js').Line} Line */
+/** @typedef {import('../lines.js').Point} Point */
 /** @typedef {import('../lines.js').Selection} Selection */
+/** @typedef {import('../lines.js').Step} Step */
 /**
  * Lines, and behind what they go. If the act is to be repeated once they are done, it goes on from what they have left.
  * @typedef {{ lines: Line[], selection: Selection, isToRepeat?: boolean }} Meant
  */
 /** @typedef {{ hosts: Hosts, selection: Selection, cells: Host[], payload: any, format: number }} Place */
+/** @typedef {{ lines: Line[], isToRepeat?: boolean }} Done */
 
-/** @type {Record<string, (place: Place) => { lines: Line[], isToRepeat?: boolean }>} */
+/** @type {Record<string, (place: Place) => Done>} */
 const own = {
   'align': ({ hosts, selection, cells, payload }) => updated(aligned(linesIn(hosts, selection, cells), payload)),
   'link': ({ hosts, selection, payload }) => ({ lines: [linked(hosts, selection, payload)] }),
@@ -28,8 +32,8 @@ const own = {
   'clear-format': cleared,
   'insert-rule': ({ hosts, selection }) => updated(ruleInserted(hosts, selection)),
   'delete-table': ({ hosts, selection }) => {
-    const cell = cellAt(hosts, selection);
-    return updated(cell ? tableRemoved(tableOf(cell)) : []);
+    const table = tableOf(cellAt(hosts, selection));
+    return updated(table ? tableRemoved(table) : []);
   },
   'join-lists': ({ hosts, selection }) => {
     const update = listsJoined(hosts, selection);
@@ -48,6 +52,7 @@ const deleting = new Set(['remove-text', 'delete-character', 'delete-word', 'cut
 const ofOneSide = new Set(['delete-character', 'delete-word']);
 const ofLines = new Set(['make-list', 'remove-list', 'indent', 'outdent']);
 
+/** @type {(update: Step[]) => Done} */
 const updated = update => ({ lines: [{ update }] });
 
 /**
@@ -68,7 +73,12 @@ export function meantBy(hosts, line, selected, format) {
   return { ...meant, selection };
 }
 
-/** @returns {Line} what a command of the core is at a place */
+/**
+ * What a command of the core is at a place.
+ * @param {Place} place
+ * @param {DispatchLine} line
+ * @returns {Line}
+ */
 function ofCore(place, line) {
   const { hosts, selection, cells, payload } = place, { dispatch: name } = line;
   if (cells.length > 0) return overCells(cells, selection, line);
@@ -80,11 +90,18 @@ function ofCore(place, line) {
   }
   const steps = stepsBeside(place, line);
   if (steps) return { update: steps };
-  const isBetweenBlocks = inserting.has(name) && isRange(selection) && hasNoBlock(hosts, selection);
-  return isBetweenBlocks ? { update: [{ dispatch: 'insert-paragraph' }, line] } : line;
+  const isBetweenBlocks = inserting.has(name) && hasNoBlock(hosts, selection);
+  return isBetweenBlocks ? { update: [{ dispatch: 'insert-paragraph' }, stepOf(line)] } : line;
 }
 
-/** The steps of a command whose outcome depends on what is next to the block with the caret, or null. */
+/** @type {(line: DispatchLine) => Step} */
+const stepOf = ({ dispatch, payload }) => payload === undefined ? { dispatch } : { dispatch, payload };
+
+/**
+ * The steps of a command whose outcome depends on what is next to the block with the caret, or null.
+ * @param {Place} place
+ * @param {DispatchLine} line
+ */
 function stepsBeside({ hosts, selection }, { dispatch: name, payload }) {
   if (name === 'insert-paragraph') return pushedDown(hosts, selection);
   if (!ofOneSide.has(name)) return null;
@@ -92,28 +109,48 @@ function stepsBeside({ hosts, selection }, { dispatch: name, payload }) {
   return steps ?? intoTable(hosts, selection, payload === 'back');
 }
 
-/** Whether a range is all of the document: where that goes, a paragraph is left, whatever the first block was. */
+/**
+ * Whether a range is all of the document: where that goes, a paragraph is left, whatever the first block was.
+ * @param {Hosts} hosts
+ * @param {Selection} selection
+ */
 function isAll(hosts, selection) {
   if (!isRange(selection) || isCaret(selection)) return false;
   return String(inOrder(hosts, selection)) === String([edgeOf(hosts.root, true), edgeOf(hosts.root, false)]);
 }
 
+/**
+ * Whether both ends of a range are in no block.
+ * @param {Hosts} hosts
+ * @param {Selection} selection
+ */
 function hasNoBlock(hosts, selection) {
-  return blockAt(hosts, selection.anchor) === null && (isCaret(selection) || blockAt(hosts, selection.focus) === null);
+  return isRange(selection) && [selection.anchor, selection.focus].every(point => blockAt(hosts, point) === null);
 }
 
-/** A command of the core where cells are selected. */
+/**
+ * A command of the core where cells are selected.
+ * @param {Host[]} cells
+ * @param {Selection} selection
+ * @param {DispatchLine} line
+ * @returns {Line}
+ */
 function overCells(cells, selection, line) {
   const { dispatch: name, payload } = line;
   if (deleting.has(name)) return { update: emptied(cells) };
-  if (inserting.has(name) || name === 'insert-paragraph') return { update: [...emptied(cells), line] };
-  if (name === 'format-text') return { update: formatted(cells, formatBits[payload], formatOf) };
+  if (inserting.has(name) || name === 'insert-paragraph') return { update: [...emptied(cells), stepOf(line)] };
+  if (name === 'format-text') return { update: formatted(cells, formatBits[String(payload)], formatOf) };
   if (!ofLines.has(name)) return line;
-  const steps = cells.flatMap(cell => [{ select: { anchor: edgeOf(cell, true), focus: edgeOf(cell, false) } }, line]);
+  const steps = cells.flatMap(cell => /** @type {Step[]} */ ([
+    { select: { anchor: edgeOf(cell, true), focus: edgeOf(cell, false) } }, stepOf(line),
+  ]));
   return { update: [...steps, { select: selection }] };
 }
 
-/** All formats go: a command clears one that the first text has, and otherwise sets it in all first. */
+/**
+ * All formats go: a command clears one that the first text has, and otherwise sets it in all first.
+ * @param {Place} place
+ */
 function cleared({ hosts, selection, cells, format }) {
   const formats = cells.length > 0 || !isRange(selection) || isCaret(selection)
     ? [format]
@@ -126,23 +163,33 @@ function cleared({ hosts, selection, cells, format }) {
   return updated(steps);
 }
 
-/** A rule goes behind the block, or in its place if that is an empty paragraph, and the caret behind the rule. */
+/**
+ * A rule goes behind the block, or in its place if that is an empty paragraph, and the caret behind the rule.
+ * @param {Hosts} hosts
+ * @param {Selection} selection
+ */
 function ruleInserted(hosts, selection) {
   let at = isRange(selection) ? blockAt(hosts, selection.focus) : null;
   if (at === null) return [];
-  while (at.parent.parent !== null && !isCell(at.parent)) at = at.parent;
-  const index = indexOf(at) + 1, next = at.parent.children[index];
-  const steps = [{ new: 'horizontalrule', as: 'rule' }, { put: 'rule', into: at.parent.key, at: index }];
+  while (parentOf(at).parent !== null && !isCell(parentOf(at))) at = parentOf(at);
+  const { key, children } = parentOf(at), index = indexOf(at) + 1, next = children[index];
+  /** @type {Step[]} */
+  const steps = [{ new: 'horizontalrule', as: 'rule' }, { put: 'rule', into: key, at: index }];
   if (next && next.tag === 'p') steps.push({ select: caretAt(edgeOf(next, true)) });
   else {
-    steps.push({ new: 'paragraph', as: 'behind' }, { put: 'behind', into: at.parent.key, at: index + 1 });
-    steps.push({ select: caretAt(['behind', 0, 'element']) });
+    steps.push({ new: 'paragraph', as: 'behind' }, { put: 'behind', into: key, at: index + 1 });
+    steps.push({ select: caretAt(/** @type {Point} */ (['behind', 0, 'element'])) });
   }
   if (at.tag === 'p' && at.children.length === 0) steps.push({ remove: at.key });
   return steps;
 }
 
-/** The caret goes to another cell; behind the last one there is a new row first. */
+/**
+ * The caret goes to another cell; behind the last one there is a new row first.
+ * @param {Place} place
+ * @param {boolean} isBack
+ * @returns {Done}
+ */
 function besideCell({ hosts, selection }, isBack) {
   const cell = cellAt(hosts, selection), next = cell && nextCell(cell, isBack);
   if (next) return updated([{ select: caretAt(edgeOf(next, false)) }]);

@@ -4,7 +4,7 @@
 import { caretAt, isCaret, isRange } from './ranges.js';
 import { targetOf } from './targets.js';
 
-/** @typedef {import('./page.js').Page} Page */
+/** @typedef {import('./page.js').AnyPage} Page */
 /** @typedef {import('../lines.js').Selection} Selection */
 /**
  * A composition: what its text replaces, and where that begins in the page. Keyboards of phones compose words anew that
@@ -31,9 +31,9 @@ export function guardComposing(page) {
     const isChanged = changes.length > 0;
     for (const { type, target, oldValue, addedNodes, removedNodes, nextSibling } of changes.reverse()) {
       if (type === 'characterData') {
-        target.data = oldValue;
+        /** @type {CharacterData} */ (target).data = oldValue ?? '';
       } else {
-        for (const node of addedNodes) node.remove();
+        for (const node of addedNodes) /** @type {ChildNode} */ (node).remove();
         for (const node of removedNodes) target.insertBefore(node, nextSibling);
       }
     }
@@ -55,7 +55,7 @@ export function guardComposing(page) {
     if (composing && event.inputType === 'insertCompositionText') composing = goingOn(page, event, composing);
   });
   element.addEventListener('compositionend', event => {
-    const ended = composing, behind = ended && behindCaret(page, ended, event.data);
+    const ended = composing, behind = ended ? behindCaret(page, ended, event.data) : 0;
     composing = null;
     changes.push(...observer.takeRecords());
     // A keyboard of a phone also begins one at each word that is touched, and ends it without a change.
@@ -88,9 +88,9 @@ function goingOn(page, event, { selected, isWord, start }) {
  * @param {string} text
  */
 function behindCaret(page, { start }, text) {
-  const { focusNode, focusOffset } = page.view.element.ownerDocument.getSelection();
-  if (start === null || focusNode !== start.node || focusOffset < start.offset) return 0;
-  return Math.max(0, start.offset + text.length - focusOffset);
+  const browser = page.view.element.ownerDocument.getSelection();
+  if (start === null || browser?.focusNode !== start.node || browser.focusOffset < start.offset) return 0;
+  return Math.max(0, start.offset + text.length - browser.focusOffset);
 }
 
 /**
@@ -107,7 +107,8 @@ async function typeComposed(page, { selected, isWord }, text, behind) {
     return;
   }
   await page.act({ dispatch: 'insert-text', payload: text }, selected);
-  if (behind === 0 || !isCaret(page.selection)) return;
-  const [key, offset] = page.selection.anchor;
+  const { selection } = page;
+  if (behind === 0 || !isCaret(selection)) return;
+  const [key, offset] = selection.anchor;
   await page.act({ update: [{ select: caretAt([key, offset - behind, 'text']) }] }, null);
 }

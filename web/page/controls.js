@@ -2,37 +2,38 @@
 import { around } from './around.js';
 import { cellsIn } from './cells.js';
 import { formatBits } from './formats.js';
-import { linesIn } from './ranges.js';
+import { linesIn, placesOf } from './ranges.js';
 
-/** @typedef {import('./page.js').Page} Page */
+/** @typedef {import('./page.js').AnyPage} Page */
 /** @typedef {ReturnType<typeof stateOf>} State */
+/** @typedef {import('./icons.js').Name} Name */
 /** @typedef {import('../lines.js').Line} Line */
 
 /**
  * `level` is the width of the bar from which there is a button, see toolbar.js. `isOff` says when nothing can be done.
- * @typedef {{ label: string, icon: string, keys?: string, level?: number,
+ * @typedef {{ label: string, icon: import('./icons.js').Name, keys?: string, level?: number,
  *   lines: (state: State, page: Page) => Line | Line[],
  *   isPressed?: (state: State) => boolean, isOff?: (state: State) => boolean }} Control
  */
 
-/** @returns {Line} */
+/** @type {(name: string, payload?: string) => Line} */
 const command = (name, payload) => payload === undefined ? { dispatch: name } : { dispatch: name, payload };
 
-/** @returns {Control} */
+/** @type {(name: Name, label: string, keys: string, level?: number) => Control} */
 const format = (name, label, keys, level) => ({
   label, icon: name, keys, level,
   lines: () => command('format-text', name),
   isPressed: state => (state.format & formatBits[name]) !== 0,
 });
 
-/** @returns {Control} */
+/** @type {(name: Name, label: string, keys: string) => Control} */
 const block = (name, label, keys) => ({
   label, icon: name, keys,
   lines: () => command(`block-${name}`),
   isPressed: state => state.block === name,
 });
 
-/** @returns {Control} */
+/** @type {(name: Name, label: string, keys: string, level?: number) => Control} */
 const list = (name, label, keys, level) => ({
   label, icon: name, keys, level,
   lines: state => state.block === name
@@ -41,14 +42,17 @@ const list = (name, label, keys, level) => ({
   isPressed: state => state.block === name,
 });
 
-/** The side from which a block is read needs no alignment: then it is as it was before any was given. */
+/**
+ * The side from which a block is read needs no alignment: then it is as it was before any was given.
+ * @type {(name: 'left' | 'center' | 'right' | 'justify', label: string, keys: string) => Control}
+ */
 const alignment = (name, label, keys) => ({
   label, icon: `align-${name}`, keys, level: 2,
   lines: ({ start }) => command('align', name === start ? '' : name),
   isPressed: ({ align, start }) => (align || start) === name,
 });
 
-/** @returns {Control} */
+/** @type {(name: 'ltr' | 'rtl', label: string, icon: Name) => Control} */
 const direction = (name, label, icon) => ({
   label, icon,
   lines: (state, page) => {
@@ -104,8 +108,8 @@ export const controls = {
 
 /** @param {Page} page */
 function selectedLines(page) {
-  const { hosts } = page.view, selection = page.selected ?? page.selection;
-  return selection?.anchor === undefined ? [] : linesIn(hosts, selection, cellsIn(hosts, selection));
+  const { hosts } = page.view, selection = page.selected ?? placesOf(page.selection);
+  return linesIn(hosts, selection, cellsIn(hosts, selection));
 }
 
 /**

@@ -2,6 +2,7 @@
 // others.
 import { cellOf, edgeOf, indexOf } from '../hosts-order.js';
 import { areasOf, cellsIn, tableOf } from './cells.js';
+import { isOfCells, isRange } from './ranges.js';
 import { sliceOf } from './slices.js';
 
 /** @typedef {import('../hosts.js').Host} Host */
@@ -23,9 +24,8 @@ export function sliceOfCells(hosts, document, selection) {
   /** @type {Map<Host | null, Node>} */
   const rows = new Map();
   for (const cell of cellsIn(hosts, selection)) {
-    const row = rows.get(cell.parent) ?? { type: 'tablerow', children: [], version: 1 };
-    row.children.push(nodeOf(document, cell));
-    rows.set(cell.parent, row);
+    const before = rows.get(cell.parent)?.children ?? [];
+    rows.set(cell.parent, { type: 'tablerow', children: [...before, nodeOf(document, cell)], version: 1 });
   }
   return rows.size === 0 ? null : sliceOf([{ type: 'table', children: [...rows.values()], version: 1 }]);
 }
@@ -54,12 +54,12 @@ export function stepsIntoCells(hosts, { nodes }, selection) {
   const start = firstCell(hosts, selection);
   if (nodes.length !== 1 || source.type !== 'table' || start === null) return null;
   const areas = areasOf(/** @type {Host} */ (tableOf(start)));
-  const from = areas.find(({ cell }) => cell === start);
+  const from = /** @type {import('./cells.js').Area} */ (areas.find(({ cell }) => cell === start));
   const steps = areasOf(/** @type {any} */ (spansOf(source))).map(({ cell, top, left }) => {
     const target = areas.find(area => area.top === from.top + top && area.left === from.left + left);
     return target ? filled(target.cell, /** @type {any} */ (cell).node) : null;
   });
-  return steps.includes(null) ? null : steps.flat();
+  return steps.includes(null) ? null : steps.flatMap(each => each ?? []);
 }
 
 /**
@@ -69,8 +69,8 @@ export function stepsIntoCells(hosts, { nodes }, selection) {
  * @returns {Host | null}
  */
 function firstCell(hosts, selection) {
-  if (!selection || selection.keys) return null;
-  if (selection.table !== undefined) return cellsIn(hosts, selection)[0] ?? null;
+  if (isOfCells(selection)) return cellsIn(hosts, selection)[0] ?? null;
+  if (!isRange(selection)) return null;
   const [anchor, focus] = [selection.anchor[0], selection.focus[0]].map(key => cellOf(hosts.ofKey(key) ?? null));
   return anchor === focus ? anchor : null;
 }
@@ -80,11 +80,11 @@ function firstCell(hosts, selection) {
  * @param {Node} table
  */
 function spansOf(table) {
-  const cell = node => ({
+  const cell = (/** @type {Node} */ node) => ({
     node,
     attributes: new Map([['rowspan', node.rowSpan ?? 1], ['colspan', node.colSpan ?? 1]]),
   });
-  return { children: table.children.map(row => ({ children: row.children.map(cell) })) };
+  return { children: table.children?.map(row => ({ children: row.children?.map(cell) ?? [] })) ?? [] };
 }
 
 /**

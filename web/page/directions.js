@@ -17,6 +17,10 @@ export function showDirections(view, ops) {
   }
 }
 
+/**
+ * @param {import('../dom.js').View} view
+ * @param {import('../hosts.js').Host} host
+ */
 function showDirection(view, host) {
   if (isBlock(host) && !host.attributes.has('dir')) view.elementOf(host).setAttribute('dir', 'auto');
 }

@@ -6,6 +6,7 @@ import { contentOf, insert, put } from './clipboard.js';
 import { placeUnder } from './places.js';
 import { caretAt, inOrder, isRange } from './ranges.js';
 
+/** @typedef {import('./page.js').AnyPage} AnyPage */
 /** @typedef {import('./page.js').Page} Page */
 /** @typedef {import('../lines.js').Selection} Selection */
 /** @typedef {import('../replies.js').ReplyPoint} ReplyPoint */
@@ -40,7 +41,7 @@ export function drop(page, files) {
 
 /**
  * Opens files that are dropped anywhere; the browser would leave the page for them.
- * @param {Page} page
+ * @param {AnyPage} page
  * @param {{ read(file: File): unknown }} [files]
  */
 function dropFiles(page, files) {
@@ -66,7 +67,7 @@ function hasFiles({ dataTransfer }) {
 
 /**
  * The caret where something is dropped; null where that is outside the document.
- * @param {Page} page
+ * @param {AnyPage} page
  * @param {DragEvent} event
  * @returns {{ anchor: ReplyPoint, focus: ReplyPoint } | null}
  */
@@ -78,7 +79,7 @@ function caretUnder({ view }, { clientX, clientY }) {
 
 /**
  * Cuts what was dragged and inserts it elsewhere: one entry of the history.
- * @param {Page} page
+ * @param {AnyPage} page
  * @param {NonNullable<ReturnType<typeof contentOf>>} content
  * @param {NonNullable<Selection>} source
  * @param {{ anchor: ReplyPoint }} target
@@ -100,7 +101,7 @@ async function move(page, content, source, { anchor: place }) {
 
 /**
  * Whether a point is in a range, or at one of its ends.
- * @param {Page} page
+ * @param {AnyPage} page
  * @param {ReplyPoint} point
  * @param {NonNullable<Selection>} range
  */

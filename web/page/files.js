@@ -8,7 +8,7 @@ import { isPressed } from './shortcuts.js';
 import { documentOf, documentOfText } from './slices.js';
 import { titleOf } from './titles.js';
 
-/** @typedef {import('./page.js').Page} Page */
+/** @typedef {import('./page.js').AnyPage} Page */
 /** @typedef {import('../replies.js').Document} Document */
 /** @typedef {{ text: string, type: string, lost?: string[] }} Written */
 /**

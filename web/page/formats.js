@@ -2,7 +2,10 @@
 
 /** @typedef {import('../hosts.js').Host} Host */
 
-/** Bits of a text's format. */
+/**
+ * Bits of a text's format.
+ * @type {Record<string, number>}
+ */
 export const formatBits = {
   bold: 1,
   italic: 2,

@@ -3,7 +3,7 @@ import { edgeOf } from '../hosts-order.js';
 import { placeOf } from '../selection.js';
 import { blockAt, isCaret } from './ranges.js';
 
-/** @typedef {import('./page.js').Page} Page */
+/** @typedef {import('./page.js').AnyPage} Page */
 /** @typedef {import('../hosts.js').Host} Host */
 /** @typedef {import('../replies.js').ReplyPoint} ReplyPoint */
 
@@ -32,8 +32,10 @@ export function leaveGaps(page) {
  * @returns {ReplyPoint | null}
  */
 function pointBeyond({ selected, view: { hosts } }, isBack) {
-  if (!isCaret(selected) || selected.anchor[2] === 'text' || blockAt(hosts, selected.anchor) !== null) return null;
-  const [key, offset] = selected.anchor, { children } = /** @type {Host} */ (hosts.ofKey(key));
+  if (!isCaret(selected)) return null;
+  const { anchor } = selected, [key, offset, kind] = anchor;
+  if (kind === 'text' || blockAt(hosts, anchor) !== null) return null;
+  const { children } = /** @type {Host} */ (hosts.ofKey(key));
   const ahead = isBack ? children.slice(0, offset).reverse() : children.slice(offset);
   const next = ahead.find(({ tag }) => tag !== 'hr');
   return next ? edgeOf(next, !isBack, true) : null;

@@ -55,11 +55,13 @@ const drawings = {
   'table-away': 'M5 7h14M9.5 7V4.5h5V7M6.5 7l.8 12.5h9.4L17.5 7M10.5 10.5v5.5M13.5 10.5v5.5',
 };
 
+/** @typedef {keyof typeof drawings} Name */
+
 const namespace = 'http://www.w3.org/2000/svg';
 
 /**
  * An icon, which says nothing to a screen reader: what it stands in has a label.
- * @param {keyof typeof drawings} name
+ * @param {Name} name
  * @returns {SVGElement}
  */
 export function icon(name) {

@@ -1,21 +1,17 @@
 // Keeps the caret in sight. A browser scrolls to what it types itself; here it types nothing.
+import { follow } from './tools.js';
 
 const ROOM = 24; // pixels that are left between the caret and the edge of what can be seen
 
-/** @param {import('./page.js').Page} page */
+/** @param {import('./page.js').AnyPage} page */
 export function keepInSight(page) {
-  let isWanted = false, isWaiting = false;
+  let isWanted = false;
   page.on('told', ({ line, reply }) => {
     if (reply.ops) isWanted = line.dispatch !== 'select-all'; // that leaves the window where it is
   });
-  page.on('settled', () => {
-    if (!isWanted || isWaiting) return;
-    if (isPartSeen()) {
-      isWanted = false;
-      return;
-    }
-    isWaiting = true;
-    bringInSight(page, () => { isWanted = isWaiting = false; });
+  follow(page, () => {
+    if (isWanted && !isPartSeen()) scrollTwice(page);
+    isWanted = false;
   });
 }
 
@@ -29,30 +25,33 @@ function isPartSeen() {
 
 /**
  * Scrolls to the caret before the next frame, if it is out of sight.
- * @param {import('./page.js').Page} page
- * @param {() => void} [begins] called as it begins
+ * @param {import('./page.js').AnyPage} page
  */
-export function bringInSight(page, begins = () => {}) {
-  requestAnimationFrame(() => {
-    begins();
-    if (!scrollToCaret(page)) return;
-    requestAnimationFrame(() => scrollToCaret(page)); // blocks that came in sight may be higher than was guessed
-  });
+export function bringInSight(page) {
+  requestAnimationFrame(() => scrollTwice(page));
+}
+
+/**
+ * Scrolls to the caret, and once more in the next frame: blocks that came in sight may be higher than was guessed.
+ * @param {import('./page.js').AnyPage} page
+ */
+function scrollTwice(page) {
+  if (scrollToCaret(page)) requestAnimationFrame(() => scrollToCaret(page));
 }
 
 /**
  * Whether the window had to be scrolled.
- * @param {import('./page.js').Page} page
+ * @param {import('./page.js').AnyPage} page
  */
 function scrollToCaret(page) {
-  const place = page.view.element.contains(getSelection().focusNode) && placeOfCaret(getSelection());
-  if (!place) return false;
-  const bar = document.getElementById('bar');
-  const bars = [bar, ...bar.querySelectorAll('.table-bar')].map(each => each.getBoundingClientRect().bottom);
+  const { focusNode = null, focusOffset = 0 } = getSelection() ?? {};
+  if (focusNode === null || !page.view.element.contains(focusNode)) return false;
+  const place = placeOfCaret({ focusNode, focusOffset });
+  const bars = Array.from(document.querySelectorAll('#bar, .table-bar'), each => each.getBoundingClientRect().bottom);
   const ceiling = Math.max(0, ...bars) + ROOM / 2, floor = document.documentElement.clientHeight - ROOM;
   const tooHigh = place.top - ceiling, tooLow = place.bottom - floor;
   const top = tooHigh < 0 ? tooHigh : tooLow > 0 ? Math.min(tooLow, tooHigh) : 0;
-  if (top !== 0) scrollBy({ top, behavior: 'instant' });
+  if (top !== 0) scrollBy({ top });
   return top !== 0;
 }
 
@@ -66,6 +65,6 @@ export function placeOfCaret({ focusNode, focusOffset }) {
   caret.setStart(focusNode, focusOffset);
   const place = caret.getBoundingClientRect();
   if (place.height > 0) return place;
-  const around = focusNode.nodeType === Node.ELEMENT_NODE ? focusNode : focusNode.parentElement;
+  const around = /** @type {Element} */ (focusNode instanceof Element ? focusNode : focusNode.parentElement);
   return (around.children[focusOffset] ?? around.lastElementChild ?? around).getBoundingClientRect();
 }

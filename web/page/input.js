@@ -11,11 +11,18 @@ import { blockAt, inOrder, isCaret, isRange, linesIn } from './ranges.js';
 import { isModHeld, isPressed } from './shortcuts.js';
 import { restOfParagraph, targetOf } from './targets.js';
 
-/** @typedef {import('./page.js').Page} Page */
+/** @typedef {import('./page.js').AnyPage} Page */
+/** @typedef {import('../hosts.js').Hosts} Hosts */
+/** @typedef {import('../lines.js').Line} Line */
+/** @typedef {import('../lines.js').Selection} Selection */
 
+/** @type {(name: string, payload?: string) => Line} */
 const command = (name, payload) => payload === undefined ? { dispatch: name } : { dispatch: name, payload };
 
-/** What the browser would do, by the names of input events. */
+/**
+ * What the browser would do, by the names of input events.
+ * @type {Record<string, Line>}
+ */
 const commands = {
   insertLineBreak: command('insert-line-break'),
   insertHorizontalRule: command('insert-rule'),
@@ -43,7 +50,10 @@ const commands = {
   historyRedo: command('redo'),
 };
 
-/** Browsers have no event of their own for these: their own list of what can be undone stays empty here. */
+/**
+ * Browsers have no event of their own for these: their own list of what can be undone stays empty here.
+ * @type {Record<string, Line>}
+ */
 const keys = {
   'Mod+A': command('select-all'),
   'Mod+Z': command('undo'),
@@ -67,9 +77,10 @@ export function listenToInput(page) {
     if (event.isComposing || event.defaultPrevented || event.altKey) return;
     const isToLeave = isTabFree && event.key === 'Tab';
     if (event.key !== 'Shift') isTabFree = event.key === 'Escape';
-    if (isModHeld(event) && isToEnd(event) !== null) {
+    const isToEnd = isModHeld(event) ? endMeant(event) : null;
+    if (isToEnd !== null) {
       event.preventDefault();
-      page.act(atEnd(page, isToEnd(event), event.shiftKey)).then(() => bringInSight(page));
+      page.act(atEnd(page, isToEnd, event.shiftKey)).then(() => bringInSight(page));
       return;
     }
     const isTab = event.key === 'Tab' && !event.ctrlKey && !event.metaKey && !isToLeave;
@@ -81,7 +92,10 @@ export function listenToInput(page) {
   });
 }
 
-/** @param {InputEvent} event */
+/**
+ * @param {Page} page
+ * @param {InputEvent} event
+ */
 function input(page, event) {
   const { inputType } = event, text = event.data ?? event.dataTransfer?.getData('text/plain') ?? '';
   const isTyped = inputType === 'insertText' && event.getTargetRanges()[0]?.collapsed === true; // as nearly all is
@@ -102,6 +116,9 @@ function input(page, event) {
 /**
  * Takes away what the browser says: all to the end of a line on the screen, or to its start. Where that is nothing, the
  * break there goes. What a paragraph has is told by the document.
+ * @param {Page} page
+ * @param {string} inputType
+ * @param {Selection} told
  */
 function remove(page, inputType, told) {
   const [, kind, direction] = /(Soft|Hard)Line(Backward|Forward)$/.exec(inputType) ?? [];
@@ -112,7 +129,11 @@ function remove(page, inputType, told) {
   return page.act(command('delete-character', direction === 'Forward' ? 'forward' : 'back'));
 }
 
-/** In items, and where whole lines are selected, Tab moves a level; in a table to the next cell; else it is typed. */
+/**
+ * In items, and where whole lines are selected, Tab moves a level; in a table to the next cell; else it is typed.
+ * @param {Page} page
+ * @param {boolean} isBack
+ */
 function tabbed(page, isBack) {
   const { hosts } = page.view, { selected } = page;
   const isItem = isRange(selected) && blockAt(hosts, selected.anchor)?.tag === 'li';
@@ -121,7 +142,11 @@ function tabbed(page, isBack) {
   return isMoved ? command(isBack ? 'outdent' : 'indent') : command('insert-tab');
 }
 
-/** Whether several lines are selected, or all of one: a tab in their place would take away more than is meant. */
+/**
+ * Whether several lines are selected, or all of one: a tab in their place would take away more than is meant.
+ * @param {Hosts} hosts
+ * @param {Selection} selected
+ */
 function hasWholeLines(hosts, selected) {
   if (!isRange(selected) || isCaret(selected)) return false;
   const lines = linesIn(hosts, selected), ends = inOrder(hosts, selected);
@@ -129,13 +154,22 @@ function hasWholeLines(hosts, selected) {
   return lines.length > 1 || (lines.length === 1 && isWhole());
 }
 
-/** Whether a key with Ctrl or Cmd goes to the end of the document, or to its start; null for others. */
-function isToEnd({ key, metaKey }) {
+/**
+ * Whether a key with Ctrl or Cmd goes to the end of the document, or to its start; null for others.
+ * @param {KeyboardEvent} event
+ */
+function endMeant({ key, metaKey }) {
   if (key === 'End' || (metaKey && key === 'ArrowDown')) return true;
   return key === 'Home' || (metaKey && key === 'ArrowUp') ? false : null;
 }
 
-/** The caret goes to the end of the document, or to its start: a browser finds none that is out of sight. */
+/**
+ * The caret goes to the end of the document, or to its start: a browser finds none that is out of sight.
+ * @param {Page} page
+ * @param {boolean} isEnd
+ * @param {boolean} isExtending
+ * @returns {Line}
+ */
 function atEnd({ selected, view: { hosts } }, isEnd, isExtending) {
   const focus = edgeOf(hosts.root, !isEnd);
   const anchor = isExtending && isRange(selected) ? selected.anchor : focus;

@@ -3,8 +3,12 @@
 const LONGEST = 2000; // characters of a line, and of an operation: a load may have millions
 const MOST = 60; // operations
 
+/** @typedef {import('../lines.js').Line} Line */
+/** @typedef {import('../replies.js').Reply} Reply */
+/** @typedef {{ line: Line, reply: Reply, milliseconds: number, count: number }} Told */
+
 /**
- * @param {{ line: object, reply: object, milliseconds: number, count: number }} told
+ * @param {Told} told
  * @param {Document} document
  * @param {boolean} isOpen
  */
@@ -22,13 +26,17 @@ export function entryOf({ line, reply, milliseconds, count }, document, isOpen) 
   return item;
 }
 
-/** What a line does, in a few words. */
+/**
+ * What a line does, in a few words.
+ * @param {Line} line
+ */
 function nameOf(line) {
   if (line.dispatch) return line.dispatch;
   if (line.update) return `update: ${line.update.slice(0, 4).map(step => Object.keys(step)[0]).join(', ')}`;
   return Object.keys(line).find(name => name !== 'at' && name !== 'tags') ?? 'a line';
 }
 
+/** @param {Reply} reply */
 function outcomeOf({ commit, ops, idle, refused, gathered }) {
   if (refused) return `refused: ${refused.cause}`;
   if (commit !== undefined) return `${ops.length} ${ops.length === 1 ? 'operation' : 'operations'}`;
@@ -36,7 +44,10 @@ function outcomeOf({ commit, ops, idle, refused, gathered }) {
   return gathered === undefined ? 'taken' : `${gathered} gathered`;
 }
 
-/** The reply, with an operation to a row. */
+/**
+ * The reply, with an operation to a row.
+ * @param {Reply} reply
+ */
 function replyText(reply) {
   if (!reply.ops) return shortened(JSON.stringify(reply));
   const { ops, ...others } = reply;
@@ -45,8 +56,14 @@ function replyText(reply) {
   return [JSON.stringify(others), ...rows].join('\n');
 }
 
+/** @type {(text: string) => string} */
 const shortened = text => (text.length > LONGEST ? `${text.slice(0, LONGEST)} … ${text.length} characters` : text);
 
+/**
+ * @param {Element} parent
+ * @param {string} name
+ * @param {string} text
+ */
 function add(parent, name, text) {
   const element = parent.appendChild(parent.ownerDocument.createElement(name));
   element.textContent = text;

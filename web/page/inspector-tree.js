@@ -2,6 +2,11 @@
 
 const MOST = 300; // lines: the rest of a long document is only counted
 
+/** @typedef {import('../hosts.js').Host} Host */
+/** @typedef {import('../dom.js').View} View */
+/** @typedef {Map<number, string>} Selected words for the keys that are selected */
+
+/** @type {Record<string, string>} */
 const types = {
   p: 'paragraph', blockquote: 'quote', ul: 'list', ol: 'list', li: 'item', a: 'link',
   table: 'table', tr: 'row', td: 'cell', th: 'header cell', br: 'line break', hr: 'rule', div: 'embed',
@@ -12,7 +17,7 @@ const plain = new Set(['class', 'href', 'data-src']); // the value says enough
 
 /**
  * The tree around what is selected.
- * @param {import('./page.js').Page} page
+ * @param {import('./page.js').AnyPage} page
  * @param {Document} document
  */
 export function treeOf({ view, selection }, document) {
@@ -30,18 +35,28 @@ export function treeOf({ view, selection }, document) {
   return list;
 }
 
-/** The block to begin with: a few before the caret where the document is long. */
+/**
+ * The block to begin with: a few before the caret where the document is long.
+ * @param {View} view
+ * @param {readonly Host[]} blocks
+ * @param {Selected} selected
+ */
 function firstShown(view, blocks, selected) {
   if (blocks.length <= MOST / 4) return 0;
   let [host] = [...selected.keys()].map(key => view.hosts.ofKey(key));
   while (host?.parent?.parent) host = host.parent;
-  return Math.max(0, blocks.indexOf(host) - MOST / 10);
+  return host ? Math.max(0, blocks.indexOf(host) - MOST / 10) : 0;
 }
 
-/** The keys that the selection has, each with the words to show for it. */
+/**
+ * The keys that the selection has, each with the words to show for it.
+ * @param {import('../replies.js').ReplySelection} selection
+ */
 function selectedKeys(selection) {
+  /** @type {Selected} */
   const keys = new Map();
-  const add = (key, words) => keys.set(key, keys.has(key) ? `${keys.get(key)}, ${words}` : words);
+  /** @type {(key: number, words: string) => void} */
+  const add = (key, words) => { keys.set(key, keys.has(key) ? `${keys.get(key)}, ${words}` : words); };
   if (selection?.kind === 'range') {
     const { anchor, focus } = selection;
     if (String(anchor) === String(focus)) add(anchor[0], `caret at ${anchor[1]}`);
@@ -56,14 +71,20 @@ function selectedKeys(selection) {
   return keys;
 }
 
+/**
+ * @param {Host} host
+ * @param {Selected} selected
+ * @param {Document} document
+ * @param {{ left: number }} budget of lines
+ */
 function branchOf(host, selected, document, budget) {
   budget.left -= 1;
-  const item = document.createElement('li');
-  item.append(word(document, 'inspector-key', host.key), ' ', typeOf(host));
+  const item = document.createElement('li'), marked = selected.get(host.key);
+  item.append(word(document, 'inspector-key', String(host.key)), ' ', typeOf(host));
   const details = detailsOf(host);
   if (details) item.append(' ', word(document, 'inspector-details', details));
   if (host.text !== null) item.append(' ', word(document, 'inspector-text', JSON.stringify(host.text)));
-  if (selected.has(host.key)) item.append(' ', word(document, 'inspector-caret', selected.get(host.key)));
+  if (marked) item.append(' ', word(document, 'inspector-caret', marked));
   const { children } = host;
   if (children.length > 0) {
     const list = item.appendChild(document.createElement('ul'));
@@ -75,18 +96,27 @@ function branchOf(host, selected, document, budget) {
   return item;
 }
 
+/** @param {Host} host */
 function typeOf({ tag, text }) {
   if (text !== null) return text === '\t' ? 'tab' : 'text';
   const outer = tag.split('>')[0];
   return /^h[1-6]$/.test(outer) ? `heading ${outer[1]}` : types[outer] ?? outer;
 }
 
-/** Formats, where a link goes, and other attributes that tell something. */
+/**
+ * Formats, where a link goes, and other attributes that tell something.
+ * @param {Host} host
+ */
 function detailsOf({ attributes }) {
   const told = [...attributes].filter(([name]) => !untold.has(name));
   return told.map(([name, value]) => (plain.has(name) ? value : `${name.replace(/^\w+-/, '')} ${value}`)).join(', ');
 }
 
+/**
+ * @param {Document} document
+ * @param {string} name
+ * @param {string} text
+ */
 function word(document, name, text) {
   const element = document.createElement('span');
   element.className = name;
@@ -94,6 +124,10 @@ function word(document, name, text) {
   return element;
 }
 
+/**
+ * @param {Document} document
+ * @param {string} text
+ */
 function note(document, text) {
   const item = document.createElement('li');
   item.className = 'inspector-note';

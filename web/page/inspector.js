@@ -18,7 +18,8 @@ export function inspector(page, element) {
   const parts = made(document, 'div',
     made(document, 'section', made(document, 'h3', 'Nodes'), nodes),
     made(document, 'section', made(document, 'h3', 'Lines, the latest first'), lines));
-  const told = []; // the latest first, for the times
+  /** @type {import('./inspector-entry.js').Told[]} the latest first, for the times */
+  const told = [];
   element.classList.add('inspector');
   element.ariaLabel = 'The core at work';
   button.type = 'button';
@@ -38,7 +39,7 @@ export function inspector(page, element) {
   page.on('told', entry => {
     if (entry.line.show) return; // questions of the page itself
     count += 1;
-    told.unshift({ ...entry, count });
+    told.unshift({ milliseconds: 0, ...entry, count });
     told.length = Math.min(told.length, MOST_LINES);
     isStale = true;
   });
@@ -66,7 +67,7 @@ export function inspector(page, element) {
 
   /** What there is in numbers. The core is asked directly, so that its answer isn't told in turn. */
   function summary() {
-    const { history } = page.editor.line({ show: 'history' });
+    const { history = { undo: 0, redo: 0 } } = page.editor.line({ show: 'history' });
     const times = told.map(({ milliseconds }) => milliseconds).sort((one, other) => one - other);
     const median = times[Math.floor(times.length / 2)] ?? 0;
     return [
@@ -80,8 +81,15 @@ export function inspector(page, element) {
   if (!element.hidden) draw();
 }
 
+/** @type {(number: number, word: string) => string} */
 const counted = (number, word) => `${number.toLocaleString('en')} ${word}${number === 1 ? '' : 's'}`;
 
+/**
+ * @template {keyof HTMLElementTagNameMap} N
+ * @param {Document} document
+ * @param {N} name
+ * @param {(Node | string)[]} inside
+ */
 function made(document, name, ...inside) {
   const element = document.createElement(name);
   element.append(...inside);

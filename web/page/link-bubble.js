@@ -9,7 +9,7 @@ import { follow } from './tools.js';
 
 /**
  * Makes what is shown below a link, to be put into the document.
- * @param {import('./page.js').Page} page
+ * @param {import('./page.js').AnyPage} page
  * @param {() => void} edit opens the dialog of the link at the caret
  * @returns {HTMLElement}
  */
@@ -31,13 +31,15 @@ export function linkBubble(page, edit) {
   function update() {
     const key = keyOfLink(page);
     if (key !== left) left = null;
-    const href = key === null ? null : page.view.elementOf(page.view.hosts.ofKey(key)).getAttribute('href');
+    const link = key === null ? undefined : page.view.hosts.ofKey(key);
+    const href = link ? page.view.elementOf(link).getAttribute('href') : null;
     const isShown = element.matches(':popover-open'), isWanted = href !== null && left === null;
     if (isShown && !isWanted) element.hidePopover();
     if (!isWanted) return;
     address.href = address.title = address.textContent = href;
     if (!isShown) element.showPopover();
-    placeBelow(element, placeOfCaret(getSelection()));
+    const { focusNode = null, focusOffset = 0 } = getSelection() ?? {};
+    if (focusNode) placeBelow(element, placeOfCaret({ focusNode, focusOffset }));
   }
 
   element.addEventListener('mousedown', event => event.preventDefault());
@@ -62,7 +64,7 @@ export function linkBubble(page, edit) {
 
 /**
  * The key of the link with the caret; null without one, and where the focus is elsewhere.
- * @param {import('./page.js').Page} page
+ * @param {import('./page.js').AnyPage} page
  */
 function keyOfLink({ selected, view }) {
   if (!isCaret(selected) || document.activeElement !== view.element) return null;
@@ -71,7 +73,7 @@ function keyOfLink({ selected, view }) {
 
 /**
  * @param {string} label
- * @param {string} name
+ * @param {import('./icons.js').Name} name
  */
 function button(label, name) {
   const element = document.createElement('button');

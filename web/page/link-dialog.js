@@ -5,17 +5,21 @@ import { icon } from './icons.js';
 import { placeOfCaret } from './in-sight.js';
 import { linksIn } from './link-lines.js';
 import { placeBelow } from './popup.js';
-import { isCaret, isRange, placesOf } from './ranges.js';
+import { formatIn, isCaret, isRange, placesOf } from './ranges.js';
+
+/** @typedef {import('./page.js').AnyPage} Page */
+/** @typedef {import('../lines.js').Line} Line */
 
 /**
  * The dialog of a page. While it is open, what was selected before keeps its mark.
- * @param {import('./page.js').Page} page
+ * @param {Page} page
  * @returns {{ element: HTMLElement, open: () => void }}
  */
 export function linkDialog(page) {
   const element = document.createElement('form');
   const text = field('Text'), address = field('Address');
   const apply = button('Link', 'done'), follow = button('Open', 'open'), remove = button('No link', 'unlink');
+  /** @type {import('./ranges.js').TextRange | null} */
   let selection = null;
 
   element.className = 'popup link-dialog';
@@ -30,8 +34,9 @@ export function linkDialog(page) {
 
   function open() {
     const { hosts } = page.view;
-    selection = page.selected ?? placesOf(page.selection);
-    if (!isRange(selection)) return page.notify('Put the caret where the link is to be, or select its words.');
+    const selected = page.selected ?? placesOf(page.selection);
+    if (!isRange(selected)) return page.notify('Put the caret where the link is to be, or select its words.');
+    selection = selected;
     const [link] = linksIn(hosts, selection);
     text.label.hidden = Boolean(link) || !isCaret(selection);
     follow.hidden = remove.hidden = !link;
@@ -47,19 +52,25 @@ export function linkDialog(page) {
     input.select();
   }
 
-  /** Says beside the address what is wrong with it. */
+  /**
+   * Says beside the address what is wrong with it.
+   * @param {string} words
+   */
   function complain(words) {
     address.input.setCustomValidity(words);
     address.input.reportValidity();
   }
 
-  /** Puts the caret back where it was: the browser moves it into what has the focus. */
-  async function close(line = null) {
+  /**
+   * Puts the caret back where it was: the browser moves it into what has the focus.
+   * @param {Line} [line]
+   */
+  async function close(line) {
     const kept = selection;
     element.hidePopover();
     if (line) await page.act(line, kept);
     page.focus();
-    if (!line) show(page.view, { ...kept, kind: 'range' });
+    if (!line && kept) show(page.view, { format: 0, ...kept, kind: 'range' });
   }
 
   element.addEventListener('submit', event => {
@@ -69,7 +80,7 @@ export function linkDialog(page) {
     if (/\s/.test(url)) return complain('An address has no spaces in it.');
     if (url === '') return close({ dispatch: 'unlink' });
     if (text.label.hidden) return close({ dispatch: 'link', payload: url });
-    close(linkWith(text.input.value || address.input.value.trim(), url, page.selection?.format ?? 0));
+    close(linkWith(text.input.value || address.input.value.trim(), url, formatIn(page.selection)));
   });
   address.input.addEventListener('input', () => address.input.setCustomValidity(''));
   remove.addEventListener('click', () => close({ dispatch: 'unlink' }));
@@ -90,27 +101,48 @@ export function linkDialog(page) {
   return { element, open };
 }
 
-/** What is selected loses the browser's mark as the dialog gets the focus, so it gets another. */
+/**
+ * The browser's selection, if it is in the document.
+ * @param {Page} page
+ */
+function browserSelection(page) {
+  const browser = getSelection();
+  return browser && browser.rangeCount > 0 && page.selected ? browser : null;
+}
+
+/**
+ * What is selected loses the browser's mark as the dialog gets the focus, so it gets another.
+ * @param {Page} page
+ */
 function markSelected(page) {
-  const browser = getSelection();
-  if (!globalThis.CSS?.highlights || browser.rangeCount === 0 || !page.selected) return;
-  CSS.highlights.set('selected', new Highlight(browser.getRangeAt(0).cloneRange()));
+  const range = browserSelection(page)?.getRangeAt(0).cloneRange();
+  if (range) globalThis.CSS?.highlights?.set('selected', new Highlight(range));
 }
 
-/** The place of what is selected in the window. */
+/**
+ * The place of what is selected in the window.
+ * @param {Page} page
+ */
 function placeOfSelected(page) {
-  const browser = getSelection();
-  if (browser.rangeCount === 0 || !page.selected) return page.view.element.getBoundingClientRect();
-  const place = browser.getRangeAt(0).getBoundingClientRect();
-  return place.height > 0 ? place : placeOfCaret(browser);
+  const browser = browserSelection(page), place = browser?.getRangeAt(0).getBoundingClientRect();
+  if (!browser?.focusNode || !place) return page.view.element.getBoundingClientRect();
+  const { focusNode, focusOffset } = browser;
+  return place.height > 0 ? place : placeOfCaret({ focusNode, focusOffset });
 }
 
-/** The line that puts in a link with its text. */
+/**
+ * The line that puts in a link with its text.
+ * @param {string} text
+ * @param {string} url
+ * @param {number} format
+ * @returns {Line}
+ */
 function linkWith(text, url, format) {
   const nodes = [{ type: 'link', url, children: [{ type: 'text', text, format }] }];
   return { dispatch: 'paste', payload: JSON.stringify({ namespace: 'lexical-core', nodes }) };
 }
 
+/** @param {string} words */
 function field(words) {
   const label = document.createElement('label'), input = document.createElement('input');
   input.type = 'text';
@@ -120,6 +152,10 @@ function field(words) {
   return { label, input };
 }
 
+/**
+ * @param {string} words
+ * @param {import('./icons.js').Name} name
+ */
 function button(words, name) {
   const element = document.createElement('button');
   element.type = 'button';
@@ -127,6 +163,7 @@ function button(words, name) {
   return element;
 }
 
+/** @param {Element[]} children */
 function buttons(...children) {
   const element = document.createElement('div');
   element.className = 'buttons';

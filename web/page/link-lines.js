@@ -1,5 +1,5 @@
 // Links: made of what is selected, given another address, and taken away.
-import { nearest } from '../hosts-order.js';
+import { indexOf, nearest } from '../hosts-order.js';
 import { isCaret, isRange, textsIn } from './ranges.js';
 
 /** @typedef {import('../hosts.js').Host} Host */
@@ -8,7 +8,10 @@ import { isCaret, isRange, textsIn } from './ranges.js';
 /** @typedef {import('../lines.js').Step} Step */
 /** @typedef {import('../lines.js').Selection} Selection */
 
-/** The link around a host, or null. */
+/**
+ * The link around a host, or null.
+ * @type {(host: Host | null) => Host | null}
+ */
 export const linkOf = host => nearest(host, ({ tag }) => tag === 'a');
 
 /**
@@ -19,9 +22,9 @@ export const linkOf = host => nearest(host, ({ tag }) => tag === 'a');
  */
 export function linksIn(hosts, selection) {
   if (!isRange(selection)) return [];
-  const around = [selection.anchor, selection.focus].map(([key]) => linkOf(hosts.ofKey(key) ?? null));
-  const through = isCaret(selection) ? [] : textsIn(hosts, selection).map(({ host }) => linkOf(host));
-  return [...new Set([...(isCaret(selection) ? around : through)])].filter(Boolean);
+  const { anchor: [key] } = selection;
+  const texts = isCaret(selection) ? [hosts.ofKey(key) ?? null] : textsIn(hosts, selection).map(({ host }) => host);
+  return [...new Set(texts.flatMap(host => linkOf(host) ?? []))];
 }
 
 /**
@@ -34,7 +37,9 @@ export function linksIn(hosts, selection) {
  */
 export function linked(hosts, selection, url) {
   const links = linksIn(hosts, selection);
+  /** @type {Step[]} */
   const steps = links.map(({ key }) => ({ set: key, fields: { url } }));
+  if (!isRange(selection)) return { update: steps };
   if (isCaret(selection)) {
     if (links.length > 0) return { update: steps };
     const nodes = [{ type: 'link', url, children: [{ type: 'text', text: url }] }];
@@ -54,11 +59,17 @@ export function linked(hosts, selection, url) {
   return { update: steps };
 }
 
-const previousOf = host => host.parent.children[host.parent.children.indexOf(host) - 1];
+/** @type {(host: Host) => Host | undefined} */
+const previousOf = host => host.parent?.children[indexOf(host) - 1];
 
-/** Cuts the selected part out of its text by a step, if it isn't all of it: what names the part. */
-function cutOut({ host, from, to }, name, steps) {
-  const at = [from, to].filter(offset => offset > 0 && offset < host.text.length);
+/**
+ * Cuts the selected part out of its text by a step, if it isn't all of it: what names the part.
+ * @param {ReturnType<typeof textsIn>[0]} part
+ * @param {string} name
+ * @param {Step[]} steps
+ */
+function cutOut({ host, text, from, to }, name, steps) {
+  const at = [from, to].filter(offset => offset > 0 && offset < text.length);
   if (at.length > 0) steps.push({ split: host.key, at, as: name });
   return from > 0 ? name : host.key;
 }

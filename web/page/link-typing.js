@@ -3,9 +3,9 @@
 import { addressMeant } from './addresses.js';
 import { formatBits, formatOf } from './formats.js';
 import { linkOf } from './link-lines.js';
-import { isCaret } from './ranges.js';
+import { caretAt, isCaret } from './ranges.js';
 
-/** @typedef {import('./page.js').Page} Page */
+/** @typedef {import('./page.js').AnyPage} Page */
 /** @typedef {import('../lines.js').Line} Line */
 /** @typedef {import('../lines.js').Selection} Selection */
 /** @typedef {import('../lines.js').Step} Step */
@@ -35,7 +35,7 @@ export function addressBefore(page, selected) {
 }
 
 /**
- * The text before the caret, where that may become a link, and the key of its host.
+ * The text before the caret, where that may become a link, with all of it and the key of its host.
  * @param {Page} page
  * @param {Selection | import('../replies.js').ReplySelection} selected
  */
@@ -43,7 +43,7 @@ function textBefore({ view: { hosts } }, selected) {
   if (!isCaret(selected)) return null;
   const [key, offset] = selected.anchor, host = hosts.ofKey(key);
   if (!host?.text || linkOf(host) !== null || formatOf(host) & formatBits.code) return null;
-  return { key, text: host.text.slice(0, offset) };
+  return { key, text: host.text.slice(0, offset), whole: host.text };
 }
 
 /**
@@ -54,8 +54,8 @@ function textBefore({ view: { hosts } }, selected) {
  */
 export function linkOfAddress(page, { key, from, text, url }) {
   const host = page.view.hosts.ofKey(key);
-  if (host?.text?.startsWith(text, from) !== true) return null;
-  return { tags: ['history-push'], update: linked(host, from, text.length, url) };
+  if (!host?.text?.startsWith(text, from)) return null;
+  return { tags: ['history-push'], update: linked({ key, text: host.text }, from, text.length, url) };
 }
 
 /**
@@ -67,19 +67,21 @@ export function linkOfMarks(page) {
   const before = textBefore(page, page.selection), found = before && marked.exec(before.text);
   const url = found && addressMeant(found[2]);
   if (!url) return null;
-  const { key, text: { length } } = before, { index, 1: words } = found, host = page.view.hosts.ofKey(key);
-  const removed = (/** @type {number} */ from, /** @type {number} */ to) => [
+  const { key, text: { length }, whole } = before, { index, 1: words } = found;
+  /** @type {(from: number, to: number) => Step[]} */
+  const removed = (from, to) => [
     { select: { anchor: [key, from, 'text'], focus: [key, to, 'text'] } }, { dispatch: 'remove-text' },
   ];
-  const left = { key, text: host.text.slice(0, index) + words + host.text.slice(length) };
+  const left = { key, text: whole.slice(0, index) + words + whole.slice(length) };
   const steps = [...removed(index + 1 + words.length, length), ...removed(index, index + 1)];
-  const end = { select: { anchor: [key, index + words.length, 'text'], focus: [key, index + words.length, 'text'] } };
+  /** @type {Step} */
+  const end = { select: caretAt([key, index + words.length, 'text']) };
   return { tags: ['history-push'], update: [...steps, end, ...linked(left, index, words.length, url)] };
 }
 
 /**
  * The steps that make a link of a part of a text.
- * @param {{ key: number, text: string | null }} host
+ * @param {{ key: number, text: string }} host
  * @param {number} from
  * @param {number} length
  * @param {string} url

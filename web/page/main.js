@@ -13,7 +13,7 @@ import { tableToolbar } from './table-toolbar.js';
 import { showTitle } from './titles.js';
 import { toolbar } from './toolbar.js';
 
-const part = name => document.getElementById(name);
+const part = (/** @type {string} */ name) => /** @type {HTMLElement} */ (document.getElementById(name));
 
 const kept = storage();
 const page = await Page.open(part('page'), { source: moduleHere(), log: kept.log });

@@ -4,13 +4,15 @@
 import { edgeOf, indexOf } from '../hosts-order.js';
 import { formatBits, formatOf } from './formats.js';
 import { addressBefore, linkOfAddress, linkOfMarks } from './link-typing.js';
-import { blockAt, caretAt, isCaret } from './ranges.js';
+import { blockAt, caretAt, isCaret, parentOf } from './ranges.js';
 
-/** @typedef {import('./page.js').Page} Page */
+/** @typedef {import('./page.js').AnyPage} Page */
 /** @typedef {import('../lines.js').Line} Line */
+/** @typedef {import('../lines.js').Point} Point */
 /** @typedef {import('../lines.js').Selection} Selection */
 /** @typedef {import('../lines.js').Step} Step */
 
+/** @type {(type: import('../lines.js').ListType) => Step[]} */
 const list = payload => [{ dispatch: 'make-list', payload }];
 
 /** @type {Record<string, Step[]>} */
@@ -48,14 +50,15 @@ function stepsOf(mark, block) {
   if (Object.hasOwn(marks, mark)) return marks[mark];
   const start = /^\d{1,3}(?=[.)]$)/.exec(mark)?.[0], at = indexOf(block);
   if (start === undefined) return null;
-  if (block.parent.children[at - 1]?.tag === 'ol') return list('number');
+  const { key, children } = parentOf(block);
+  if (children[at - 1]?.tag === 'ol') return list('number');
   return [
     { new: 'list', fields: { listType: 'number', start: Number(start) }, as: 'list' },
-    { put: 'list', into: block.parent.key, at },
+    { put: 'list', into: key, at },
     { new: 'listitem', as: 'item' },
     { put: 'item', into: 'list' },
     { children: block.key, into: 'item' },
-    { select: caretAt(['item', 0, 'element']) },
+    { select: caretAt(/** @type {Point} */ (['item', 0, 'element'])) },
     { remove: block.key },
   ];
 }
@@ -104,13 +107,15 @@ function space(page, typed) {
  */
 function made({ selection, view: { hosts } }) {
   if (!isCaret(selection)) return null;
-  const [key, offset] = selection.anchor, host = hosts.ofKey(key), block = blockAt(hosts, selection.anchor);
-  if (block?.tag !== 'p' || host.text === null || block.children[0] !== host || host.text[offset - 1] !== ' ') return null;
+  const { anchor } = selection, [key, offset] = anchor, host = hosts.ofKey(key), block = blockAt(hosts, anchor);
+  if (block?.tag !== 'p' || !host?.text || block.children[0] !== host || host.text[offset - 1] !== ' ') return null;
   const steps = stepsOf(host.text.slice(0, offset - 1), block);
   if (steps === null) return null;
-  const taken = { anchor: [key, 0, 'text'], focus: [key, offset, 'text'] };
-  return { tags: ['history-push'], update: [{ select: taken }, { dispatch: 'remove-text' }, ...steps] };
+  return { tags: ['history-push'], update: [select(key, 0, offset), { dispatch: 'remove-text' }, ...steps] };
 }
+
+/** @type {(key: number, from: number, to: number) => Step} */
+const select = (key, from, to) => ({ select: { anchor: [key, from, 'text'], focus: [key, to, 'text'] } });
 
 /**
  * What stands between marks before the caret gets their format, and the marks go. What is typed next hasn't it.
@@ -119,19 +124,19 @@ function made({ selection, view: { hosts } }) {
  */
 function formatted({ selection, view: { hosts } }) {
   if (!isCaret(selection)) return null;
-  const [key, offset] = selection.anchor, host = hosts.ofKey(key), text = host.text?.slice(0, offset) ?? '';
-  const [name, found] = inline.map(([each, pattern]) => [each, pattern.exec(text)]).find(([, match]) => match) ?? [];
-  if (!found || formatOf(host) & (formatBits.code | formatBits[name])) return null;
+  const [key, offset] = selection.anchor, host = hosts.ofKey(key), text = host?.text?.slice(0, offset) ?? '';
+  const [name, pattern] = inline.find(([, each]) => each.test(text)) ?? [], found = pattern?.exec(text);
+  if (!host || !name || !found || formatOf(host) & (formatBits.code | formatBits[name])) return null;
   const [{ length }, content] = found, start = offset - length, mark = (length - content.length) / 2;
-  const range = (from, to) => ({ select: { anchor: [key, from, 'text'], focus: [key, to, 'text'] } });
+  /** @type {Step} */
   const formatting = { dispatch: 'format-text', payload: name };
   return {
     tags: ['history-push'],
     update: [
-      range(offset - mark, offset), { dispatch: 'remove-text' },
-      range(start, start + mark), { dispatch: 'remove-text' },
-      range(start, start + content.length), formatting,
-      { select: caretAt(['@focus', content.length, 'text']) }, formatting,
+      select(key, offset - mark, offset), { dispatch: 'remove-text' },
+      select(key, start, start + mark), { dispatch: 'remove-text' },
+      select(key, start, start + content.length), formatting,
+      { select: caretAt(/** @type {Point} */ (['@focus', content.length, 'text'])) }, formatting,
     ],
   };
 }

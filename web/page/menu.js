@@ -1,4 +1,5 @@
 // A menu below a button. Arrows, Home, End and letters go through it, Enter chooses, Escape closes it.
+import { all, closest } from './elements.js';
 import { icon } from './icons.js';
 import { popup } from './popup.js';
 import { shown, spoken } from './shortcuts.js';
@@ -6,7 +7,7 @@ import { shown, spoken } from './shortcuts.js';
 /**
  * What a menu offers. A choice is one of several that exclude each other; `level` says that the bar has it as a button
  * too, from that width up: see toolbar.js.
- * @typedef {{ name: string, label: string, icon?: string, keys?: string, level?: number,
+ * @typedef {{ name: string, label: string, icon?: import('./icons.js').Name, keys?: string, level?: number,
  *   kind?: 'choice' | 'check' | 'action' }} Item
  */
 
@@ -14,7 +15,7 @@ const roles = { choice: 'menuitemradio', check: 'menuitemcheckbox', action: 'men
 
 /**
  * Makes the menu of a button. Null among the items is a line between two groups.
- * @param {HTMLElement} button
+ * @param {HTMLButtonElement} button
  * @param {{ label: string, items: (Item | null)[], choose: (name: string) => void }} options
  * @returns {HTMLElement} the menu, to be put right behind the button
  */
@@ -28,8 +29,8 @@ export function menu(button, { label, items, choose }) {
   let from = 'first';
   popup(button, element, {
     opened() {
-      const isChoice = element.firstElementChild.role === roles.choice;
-      const checked = isChoice && from === 'first' && element.querySelector('[aria-checked=true]');
+      const isChoice = element.firstElementChild?.role === roles.choice;
+      const checked = isChoice && from === 'first' && all(element, '[aria-checked=true]')[0];
       (checked || entries(element).at(from === 'first' ? 0 : -1))?.focus();
       from = 'first';
     },
@@ -41,12 +42,12 @@ export function menu(button, { label, items, choose }) {
     element.showPopover();
   });
   element.addEventListener('keydown', event => moveIn(element, event));
-  element.addEventListener('pointermove', ({ target }) => target.closest('[data-command]')?.focus());
+  element.addEventListener('pointermove', ({ target }) => closest(target, '[data-command]')?.focus());
   element.addEventListener('click', ({ target }) => {
-    const chosen = target.closest('[data-command]');
-    if (!chosen) return;
+    const name = closest(target, '[data-command]')?.dataset.command;
+    if (name === undefined) return;
     element.hidePopover();
-    choose(chosen.dataset.command);
+    choose(name);
   });
   return element;
 }
@@ -57,9 +58,7 @@ export function menu(button, { label, items, choose }) {
  * @param {(name: string) => boolean} isChecked
  */
 export function mark(element, isChecked) {
-  for (const item of element.querySelectorAll('[aria-checked]')) {
-    item.ariaChecked = String(isChecked(item.dataset.command));
-  }
+  for (const item of all(element, '[aria-checked]')) item.ariaChecked = String(isChecked(item.dataset.command ?? ''));
 }
 
 /** @param {Item} item */
@@ -69,7 +68,7 @@ function entry({ name, label, icon: drawn, keys, level, kind = 'action' }) {
   element.role = roles[kind];
   element.tabIndex = -1;
   element.dataset.command = name;
-  if (level) element.dataset.level = level;
+  if (level) element.dataset.level = String(level);
   if (kind !== 'action') element.ariaChecked = 'false';
   const words = document.createElement('span');
   words.textContent = label;
@@ -88,9 +87,12 @@ function line() {
   return document.createElement('hr');
 }
 
-/** The entries that can be seen: some are there only where the bar is narrow. */
+/**
+ * The entries that can be seen: some are there only where the bar is narrow.
+ * @param {Element} element
+ */
 function entries(element) {
-  return [...element.querySelectorAll('[data-command]')].filter(item => item.getClientRects().length > 0);
+  return all(element, '[data-command]').filter(item => item.getClientRects().length > 0);
 }
 
 /**
@@ -98,7 +100,7 @@ function entries(element) {
  * @param {KeyboardEvent} event
  */
 function moveIn(element, event) {
-  const items = entries(element), at = items.indexOf(document.activeElement);
+  const items = entries(element), at = items.findIndex(item => item === document.activeElement);
   const to = {
     ArrowDown: at + 1,
     ArrowUp: at < 0 ? items.length - 1 : at - 1 + items.length,
@@ -112,10 +114,16 @@ function moveIn(element, event) {
   items[to % items.length].focus();
 }
 
-/** The next entry that begins with the letter, or null. */
+/**
+ * The next entry that begins with the letter, or null.
+ * @param {HTMLElement[]} items
+ * @param {number} at
+ * @param {KeyboardEvent} event
+ */
 function byLetter(items, at, { key, ctrlKey, metaKey, altKey }) {
   if (key.length !== 1 || key === ' ' || ctrlKey || metaKey || altKey) return null;
-  const begins = item => item.querySelector('span').textContent.toLowerCase().startsWith(key.toLowerCase());
+  /** @type {(item: HTMLElement) => boolean} */
+  const begins = item => all(item, 'span')[0]?.textContent?.toLowerCase().startsWith(key.toLowerCase()) === true;
   const next = items.findIndex((item, index) => index > at && begins(item));
   return next >= 0 ? next : items.findIndex(begins) >= 0 ? items.findIndex(begins) : null;
 }

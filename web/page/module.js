@@ -8,7 +8,7 @@
 export function moduleHere() {
   const packed = document.getElementById('lexical-wasm');
   if (!packed) return undefined;
-  const bytes = Uint8Array.from(atob(packed.textContent), character => character.charCodeAt(0));
+  const bytes = Uint8Array.from(atob(packed.textContent ?? ''), character => character.charCodeAt(0));
   const unpacked = new Blob([bytes]).stream().pipeThrough(new DecompressionStream('gzip'));
   return new Response(unpacked);
 }

@@ -2,7 +2,7 @@
 import { isPlaceBeside, placeAt } from './places.js';
 import { blockAt, isRange, textsIn } from './ranges.js';
 
-/** @typedef {import('./page.js').Page} Page */
+/** @typedef {import('./page.js').AnyPage} Page */
 
 /** @param {Page} page */
 export function listenToMouse(page) {
@@ -25,8 +25,8 @@ export function listenToMouse(page) {
  * @param {MouseEvent} event
  */
 function itemOfMark(page, { target, offsetX }) {
-  if (target.role !== 'checkbox' || (offsetX >= 0 && offsetX < target.clientWidth)) return null;
-  return page.view.hostAround(target);
+  if (!(target instanceof Element) || target.role !== 'checkbox') return null;
+  return offsetX >= 0 && offsetX < target.clientWidth ? null : page.view.hostAround(target);
 }
 
 /**
@@ -34,7 +34,8 @@ function itemOfMark(page, { target, offsetX }) {
  * @param {MouseEvent} event
  */
 function clicked(page, event) {
-  const link = event.target.closest('a'), item = itemOfMark(page, event);
+  const { target } = event, link = target instanceof Element ? target.closest('a') : null;
+  const item = itemOfMark(page, event);
   if (link) {
     event.preventDefault();
     if (link.href && (event.ctrlKey || event.metaKey)) window.open(link.href, '_blank', 'noopener');

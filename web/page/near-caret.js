@@ -1,7 +1,7 @@
 // The groups of blocks around the caret are laid out wherever the window is. In what isn't, the arrow keys of a browser
 // find no place: from the edge of a group they would go far away.
 
-/** @param {import('./page.js').Page} page */
+/** @param {import('./page.js').AnyPage} page */
 export function layOutNear(page) {
   const { view } = page;
   /** @type {Element[]} */
@@ -9,7 +9,8 @@ export function layOutNear(page) {
   page.on('settled', () => {
     const group = groupAround(view, document.getSelection()?.focusNode ?? null);
     if (group === null) return;
-    const groups = [group.previousElementSibling, group, group.nextElementSibling].filter(each => view.isGroup(each));
+    const groups = [group.previousElementSibling, group, group.nextElementSibling]
+      .flatMap(each => each && view.isGroup(each) ? each : []);
     if (groups.length === near.length && groups.every((each, index) => each === near[index])) return;
     for (const each of near) if (!groups.includes(each)) each.classList.remove('near');
     for (const each of groups) each.classList.add('near');

@@ -5,14 +5,14 @@ const LASTING = 5000;
 
 /**
  * Shows the notices of a page. The element is a live region, so a screen reader says them.
- * @param {import('./page.js').Page} page
+ * @param {import('./page.js').AnyPage} page
  * @param {HTMLElement} element
  */
 export function notices(page, element) {
   element.classList.add('notices');
   element.role = 'status';
   page.on('notice', text => {
-    for (const shown of element.children) if (shown.firstChild.data === text) shown.remove(); // it is said anew
+    for (const shown of element.children) if (shown.firstChild?.nodeValue === text) shown.remove(); // it is said anew
     element.append(notice(text));
   });
 }

@@ -1,9 +1,10 @@
 // What is typed at the edge of a link isn't meant for the link.
 import { indexOf } from '../hosts-order.js';
 import { linkOf } from './link-lines.js';
-import { caretAt, isCaret } from './ranges.js';
+import { caretAt, isCaret, parentOf } from './ranges.js';
 
 /** @typedef {import('../hosts.js').Hosts} Hosts */
+/** @typedef {import('../lines.js').Point} Point */
 /** @typedef {import('../lines.js').Selection} Selection */
 
 /**
@@ -13,11 +14,12 @@ import { caretAt, isCaret } from './ranges.js';
  * @returns {Selection}
  */
 export function outsideLink(hosts, selection) {
-  if (!isCaret(selection) || selection.anchor[2] !== 'text') return selection;
-  const [key, offset] = selection.anchor, host = hosts.ofKey(key), link = linkOf(host ?? null);
-  if (!link) return selection;
+  if (!isCaret(selection)) return selection;
+  const [key, offset, kind] = selection.anchor, host = hosts.ofKey(key), link = linkOf(host ?? null);
+  if (kind !== 'text' || !link) return selection;
   const { children } = link, isAtStart = offset === 0 && host === children[0];
-  const isAtEnd = offset === host.text.length && host === children[children.length - 1];
+  const isAtEnd = offset === host?.text?.length && host === children[children.length - 1];
   if (!isAtStart && !isAtEnd) return selection;
-  return { ...selection, ...caretAt([link.parent.key, indexOf(link) + (isAtEnd ? 1 : 0), 'element']) };
+  const outside = /** @type {Point} */ ([parentOf(link).key, indexOf(link) + (isAtEnd ? 1 : 0), 'element']);
+  return { ...selection, ...caretAt(outside) };
 }

@@ -9,7 +9,7 @@ import { guardComposing } from './composing.js';
 import { meantBy } from './commands.js';
 import { showDirections } from './directions.js';
 import { listenToInput } from './input.js';
-import { placesOf } from './ranges.js';
+import { formatIn, placesOf } from './ranges.js';
 import { startLines } from './rules.js';
 
 /** @typedef {import('../lines.js').Line} Line */
@@ -17,6 +17,16 @@ import { startLines } from './rules.js';
 /** @typedef {import('../replies.js').Reply} Reply */
 /** @typedef {import('../replies.js').ReplySelection} ReplySelection */
 /** @typedef {Line | ((selected: Selection) => Line | null)} Act */
+/** @typedef {{ line: Line, reply: Reply, milliseconds?: number }} Told */
+/**
+ * What the page tells, by the names of its events: see `on`.
+ * @typedef {{ told: [Told], changing: [], changed: [], settled: [], notice: [text: string] }} Events
+ */
+/**
+ * What the parts of the page ask of it; a shared one has it too.
+ * @typedef {Pick<Page, 'view' | 'isShared' | 'selection' | 'selected' | 'history' | 'isBusy' | 'act' | 'ask' | 'on'
+ *   | 'notify' | 'focus'>} AnyPage
+ */
 
 const GROUP = 64; // blocks that are together in an element: style.css guesses its height
 
@@ -36,12 +46,17 @@ export class Page {
    * @type {Line[]}
    */
   begun = [];
-  /** @type {Map<string, Set<Function>>} */
+  /** @type {Map<string, Set<(...details: any) => void>>} */
   #listeners = new Map();
+  /** @type {WeakMap<Reply, number>} */
   #milliseconds = new WeakMap();
-  /** How many entries the history has, if that was asked since the last act. */
+  /**
+   * How many entries the history has, if that was asked since the last act.
+   * @type {{ undo: number, redo: number } | null}
+   */
   #history = null;
   #session;
+  /** @type {Promise<unknown>} */
   #turn = Promise.resolve();
   #waiting = 0;
   /** What was selected when that was looked at last, as JSON. */
@@ -55,21 +70,28 @@ export class Page {
   /**
    * Opens an editor, answers the lines of a log, if there is one, or else the start lines, and shows what comes of it.
    * @param {Element} element
-   * @param {{ source?: import('../lexical.js').Source, log?: Line[], now?: () => number }} [options]
+   * @param {{ source?: import('../lexical.js').Source, log?: Line[], now?: () => number }} options
    */
   static async open(element, { source, log = [], now = Date.now } = {}) {
     return new Page(element, await Lexical.open(source), log, now);
   }
 
-  /** Use `Page.open`. */
+  /**
+   * Use `Page.open`.
+   * @param {Element} element
+   * @param {Lexical} editor
+   * @param {Line[]} log
+   * @param {() => number} now
+   */
   constructor(element, editor, log, now) {
     this.editor = editor;
     this.view = new View(element, { hosts: this.#hostsAfter(log, now), groups: GROUP });
     Object.assign(this.view.element, { contentEditable: 'true', role: 'textbox', ariaMultiLine: 'true' });
     this.view.element.ariaLabel = 'Document';
     showDirections(this.view);
-    this.selection = editor.line({ show: 'selection' }).selection;
-    this.#session = new Session(carrierOf({ line: line => this.#answer(line) }), {
+    this.selection = editor.line({ show: 'selection' }).selection ?? null;
+    const timed = /** @type {Lexical} */ ({ line: (/** @type {Line} */ line) => this.#answer(line) });
+    this.#session = new Session(carrierOf(timed), {
       now,
       onReply: (reply, line) => this.#learn(reply, line),
     });
@@ -91,7 +113,7 @@ export class Page {
 
   /** How many entries the history has. It is asked for when somebody wants to know, rather than at each key. */
   get history() {
-    return this.#history ??= this.editor.line({ show: 'history' }).history;
+    return this.#history ??= this.editor.line({ show: 'history' }).history ?? { undo: 0, redo: 0 };
   }
 
   /** Whether an act waits or is under way. */
@@ -114,7 +136,8 @@ export class Page {
     try {
       return await done;
     } catch (error) {
-      this.notify(error.code === 'broken' ? 'The editor has stopped. Open the page again.' : error.message);
+      const { code, message } = /** @type {Error & { code?: string }} */ (error);
+      this.notify(code === 'broken' ? 'The editor has stopped. Open the page again.' : message);
       throw error;
     } finally {
       this.#waiting -= 1;
@@ -138,8 +161,9 @@ export class Page {
    * - `changing` and `changed`: right before and after the view follows a commit;
    * - `settled`: no act waits, and the selection is shown; or the reader has selected something else;
    * - `notice`, with a sentence for the reader.
-   * @param {string} name
-   * @param {Function} listener
+   * @template {keyof Events} N
+   * @param {N} name
+   * @param {(...details: Events[N]) => void} listener
    */
   on(name, listener) {
     const listeners = this.#listeners.get(name) ?? new Set();
@@ -157,10 +181,14 @@ export class Page {
     this.#settle();
   }
 
-  /** The hosts after the lines that the document begins with. They are drawn once, however many lines there are. */
+  /**
+   * The hosts after the lines that the document begins with. They are drawn once, however many lines there are.
+   * @param {Line[]} log
+   * @param {() => number} now
+   */
   #hostsAfter(log, now) {
     const hosts = new Hosts();
-    const answer = line => {
+    const answer = (/** @type {Line} */ line) => {
       const reply = this.editor.line(line);
       if (reply.ops) hosts.apply(reply.ops);
       if (!reply.refused) this.begun.push(line);
@@ -178,7 +206,12 @@ export class Page {
     return isOld ? null : selected;
   }
 
+  /**
+   * @param {Act[]} lines
+   * @param {Selection} selected
+   */
   async #perform(lines, selected) {
+    /** @type {Reply[]} */
     const replies = [];
     for (const [index, act] of lines.entries()) {
       const first = index === 0 ? selected : null;
@@ -193,15 +226,21 @@ export class Page {
     return replies;
   }
 
+  /**
+   * @param {Line} line
+   * @param {Selection} selected
+   * @returns {Promise<Reply>}
+   */
   async #do(line, selected, isRepeated = false) {
-    const { hosts } = this.view, format = this.selection?.format ?? 0;
+    const { hosts } = this.view, format = formatIn(this.selection);
     const { lines, selection, isToRepeat } = meantBy(hosts, line, selected ?? placesOf(this.selection), format);
-    const merged = isRepeated ? lines.map(one => ({ tags: ['history-merge'], ...one })) : lines;
+    const merged = isRepeated ? lines.map(one => /** @type {Line} */ ({ tags: ['history-merge'], ...one })) : lines;
     const replies = await this.#session.do(merged, selection);
     const reply = replies.find(({ refused }) => refused) ?? replies.at(-1) ?? { idle: true };
     return isToRepeat && !isRepeated && !reply.refused ? this.#do(line, null, true) : reply;
   }
 
+  /** @param {Line} line */
   #answer(line) {
     const start = performance.now();
     const reply = this.editor.line(line);
@@ -209,6 +248,10 @@ export class Page {
     return reply;
   }
 
+  /**
+   * @param {Reply} reply
+   * @param {Line} line
+   */
   #learn(reply, line) {
     if (reply.ops) {
       this.#emit('changing');
@@ -239,6 +282,11 @@ export class Page {
     this.#emit('settled');
   }
 
+  /**
+   * @template {keyof Events} N
+   * @param {N} name
+   * @param {Events[N]} details
+   */
   #emit(name, ...details) {
     for (const listener of this.#listeners.get(name) ?? []) listener(...details);
   }

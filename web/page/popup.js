@@ -4,11 +4,11 @@ const GAP = 4; // pixels between a panel and what it belongs to
 
 /**
  * Has a button open and close a panel. The panel is in the document, best right behind the button.
- * @param {HTMLElement} button
+ * @param {HTMLButtonElement} button
  * @param {HTMLElement} panel
- * @param {{ opened?: () => void, closed?: () => void }} [listeners]
+ * @param {{ opened?: () => void, closed?: () => void }} listeners
  */
-export function popup(button, panel, { opened = () => {}, closed = () => {} } = {}) {
+export function popup(button, panel, { opened = () => {}, closed = () => {} }) {
   panel.classList.add('popup');
   panel.popover = 'auto';
   button.popoverTargetElement = panel;

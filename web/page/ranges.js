@@ -5,53 +5,111 @@ import { blockOf, cellOf, edgeOf, indexOf, isBefore, isBlock, nearest } from '..
 /** @typedef {import('../hosts.js').Host} Host */
 /** @typedef {import('../hosts.js').Hosts} Hosts */
 /** @typedef {import('../lines.js').Selection} Selection */
+/** @typedef {import('../lines.js').Point} Point */
 /** @typedef {import('../replies.js').ReplyPoint} ReplyPoint */
+/** @typedef {import('../replies.js').ReplySelection} ReplySelection */
+/**
+ * What the page reads, and what the core tells, has keys; only steps have names too.
+ * @typedef {{ anchor: ReplyPoint, focus: ReplyPoint, format?: number }} TextRange
+ * @typedef {{ anchor: number, focus: number, table: number }} CellRange
+ */
 
-/** @type {(selection: Selection) => boolean} */
-export const isRange = selection => Array.isArray(selection?.anchor);
+/**
+ * @param {Selection | ReplySelection | undefined} selection
+ * @returns {selection is TextRange}
+ */
+export function isRange(selection) {
+  return Boolean(selection && 'anchor' in selection && Array.isArray(selection.anchor));
+}
 
-/** @type {(selection: Selection) => boolean} */
-export const isCaret = selection => (
-  isRange(selection) && selection.anchor.every((part, index) => part === selection.focus[index])
-);
+/**
+ * @param {Selection | ReplySelection | undefined} selection
+ * @returns {selection is TextRange}
+ */
+export function isCaret(selection) {
+  return isRange(selection) && selection.anchor.every((part, index) => part === selection.focus[index]);
+}
 
-/** @type {(point: ReplyPoint) => Selection} */
+/**
+ * @param {Selection | ReplySelection | undefined} selection
+ * @returns {selection is CellRange}
+ */
+export function isOfCells(selection) {
+  return Boolean(selection && 'table' in selection && selection.table !== undefined);
+}
+
+/**
+ * @template {Point} P
+ * @param {P} point
+ * @returns {{ anchor: P, focus: P }}
+ */
 export const caretAt = point => ({ anchor: point, focus: point });
 
 /**
  * A selection of a reply, as a step takes it.
- * @param {import('../replies.js').ReplySelection} selection
+ * @param {ReplySelection} selection
  * @returns {Selection}
  */
 export function placesOf(selection) {
-  if (selection === null) return null;
-  const { kind, format, ...places } = selection;
-  return places;
+  switch (selection?.kind) {
+    case 'range': return { anchor: selection.anchor, focus: selection.focus };
+    case 'cells': return { anchor: selection.anchor, focus: selection.focus, table: selection.table };
+    case 'nodes': return { keys: selection.keys };
+    default: return null;
+  }
 }
+
+/**
+ * The format of what is selected; none where that is no range.
+ * @param {ReplySelection} selection
+ */
+export const formatIn = selection => selection?.kind === 'range' ? selection.format : 0;
 
 /**
  * The two points of a range in the order of the document.
  * @param {Hosts} hosts
- * @param {Selection} range
+ * @param {TextRange} range
  * @returns {[ReplyPoint, ReplyPoint]}
  */
 export function inOrder(hosts, { anchor, focus }) {
   return isBefore(hosts, focus, anchor) ? [focus, anchor] : [anchor, focus];
 }
 
-/** The block around a point, or null. */
+/**
+ * The block around a point, or null.
+ * @type {(hosts: Hosts, point: ReplyPoint) => Host | null}
+ */
 export const blockAt = (hosts, [key]) => blockOf(hosts.ofKey(key) ?? null);
 
-/** Whether a host shows a text, a tab, a link, a line break or an embed. */
+/**
+ * The host around one that isn't host 0.
+ * @param {Host} host
+ */
+export const parentOf = ({ parent }) => /** @type {Host} */ (parent);
+
+/**
+ * Whether a host shows a text, a tab, a link, a line break or an embed.
+ * @type {(host: Host) => boolean}
+ */
 export const isInline = ({ text, tag }) => text !== null || tag === 'a' || tag === 'br' || tag === 'span';
 
-/** Whether a block has a line of its own: an item that holds lists alone hasn't. */
+/**
+ * Whether a block has a line of its own: an item that holds lists alone hasn't.
+ * @type {(block: Host) => boolean}
+ */
 const isLine = ({ children }) => children.length === 0 || children.some(isInline);
 
-/** Whether nothing of a block is before a point in it. */
+/**
+ * Whether nothing of a block is before a point in it.
+ * @param {Hosts} hosts
+ * @param {ReplyPoint} point
+ * @param {Host} block
+ */
 export function isAtStart(hosts, [key, offset], block) {
   if (offset !== 0) return false;
-  for (let at = hosts.ofKey(key); at && at !== block; at = at.parent) if (indexOf(at) !== 0) return false;
+  /** @type {Host | null} */
+  let at = hosts.ofKey(key) ?? null;
+  for (; at && at !== block; at = at.parent) if (indexOf(at) !== 0) return false;
   return true;
 }
 
@@ -68,7 +126,11 @@ export function* below(host, holds) {
   }
 }
 
-/** The blocks below a host, also those in other blocks: items in items, and blocks in quotes. */
+/**
+ * The blocks below a host, also those in other blocks: items in items, and blocks in quotes.
+ * @param {Host} host
+ * @returns {Generator<Host>}
+ */
 function* blocksBelow(host) {
   for (const child of host.children) {
     if (isBlock(child)) yield child;
@@ -90,7 +152,8 @@ export function linesIn(hosts, selection, cells = []) {
   if (first === null || first === last) return first ? [first] : [];
   const frame = cellOf(first);
   const blocks = [...blocksBelow(frame ?? hosts.root)];
-  const behind = last ? blocks.indexOf(last) + 1 : blocks.findIndex(block => !isBefore(hosts, [block.key, 0], end));
+  const isBehind = (/** @type {Host} */ { key }) => !isBefore(hosts, [key, 0, 'element'], end);
+  const behind = last ? blocks.indexOf(last) + 1 : blocks.findIndex(isBehind);
   return blocks.slice(blocks.indexOf(first), behind < 0 ? undefined : behind)
     .filter(block => isLine(block) && cellOf(block) === frame);
 }
@@ -98,17 +161,21 @@ export function linesIn(hosts, selection, cells = []) {
 /**
  * The texts in a range, each with the offsets from which and to which it is in it; none where that is nothing.
  * @param {Hosts} hosts
- * @param {Selection} range
- * @returns {{ host: Host, from: number, to: number }[]}
+ * @param {TextRange} range
+ * @returns {{ host: Host, text: string, from: number, to: number }[]}
  */
 export function textsIn(hosts, range) {
   const [start, end] = inOrder(hosts, range);
-  const around = linesIn(hosts, range).flatMap(block => [...below(block, ({ text }) => text !== null)]);
-  return around.map(host => ({
-    host,
-    from: host.key === start[0] ? start[1] : isBefore(hosts, [host.key, 0], start) ? host.text.length : 0,
-    to: host.key === end[0] ? end[1] : isBefore(hosts, [host.key, 0], end) ? host.text.length : 0,
-  })).filter(({ from, to }) => from < to);
+  const hostsOfTexts = linesIn(hosts, range).flatMap(block => [...below(block, ({ text }) => text !== null)]);
+  return hostsOfTexts.map(host => {
+    const { key, text } = host, whole = text ?? '';
+    return {
+      host,
+      text: whole,
+      from: key === start[0] ? start[1] : isBefore(hosts, [key, 0, 'text'], start) ? whole.length : 0,
+      to: key === end[0] ? end[1] : isBefore(hosts, [key, 0, 'text'], end) ? whole.length : 0,
+    };
+  }).filter(({ from, to }) => from < to);
 }
 
 /**
@@ -120,37 +187,41 @@ export function textsIn(hosts, range) {
  */
 export function within(hosts, selection) {
   if (!isRange(selection) || isCaret(selection)) return selection;
-  const ends = inOrder(hosts, selection);
-  const [ours, theirs] = ends.map(([key]) => framesAround(hosts.ofKey(key)));
+  const { anchor } = selection, ends = inOrder(hosts, selection);
+  const [ours, theirs] = ends.map(([key]) => framesAround(hosts.ofKey(key) ?? null));
   if (ours[0] === theirs[0]) return selection;
   const frame = ours.find(one => theirs.includes(one)) ?? null;
   const [start, end] = ends.map((point, index) => outOfTable(hosts, point, frame, index === 0));
-  return ends[0] === selection.anchor ? { anchor: start, focus: end } : { anchor: end, focus: start };
+  return ends[0] === anchor ? { anchor: start, focus: end } : { anchor: end, focus: start };
 }
 
+/**
+ * @param {Host | null} host
+ * @returns {(Host | null)[]}
+ */
 function framesAround(host) {
   const frames = [];
-  for (let cell = cellOf(host ?? null); cell; cell = cellOf(cell.parent)) frames.push(cell);
+  for (let cell = cellOf(host); cell; cell = cellOf(cell.parent)) frames.push(cell);
   return [...frames, null];
 }
 
-/** A point in a frame, or where the outermost table of the frame begins or ends that has the point in it. */
+/**
+ * A point in a frame, or where the outermost table of the frame begins or ends that has the point in it.
+ * @param {Hosts} hosts
+ * @param {ReplyPoint} point
+ * @param {Host | null} frame
+ * @param {boolean} isStart
+ * @returns {ReplyPoint}
+ */
 function outOfTable(hosts, point, frame, isStart) {
-  let host = hosts.ofKey(point[0]);
-  if (cellOf(host) === frame) return point;
-  for (let cell = cellOf(host); cell !== frame; cell = cellOf(host)) {
-    host = nearest(cell, ({ tag }) => tag === 'table').parent;
+  const inner = /** @type {Host} */ (hosts.ofKey(point[0]));
+  if (cellOf(inner) === frame) return point;
+  let table = inner;
+  for (let cell = cellOf(inner); cell && cell !== frame; cell = cellOf(table)) {
+    table = /** @type {Host} */ (nearest(cell, ({ tag }) => tag === 'table'));
   }
-  const table = tableIn(host, hosts.ofKey(point[0]));
-  const before = host.children[indexOf(table) - 1];
+  const host = parentOf(table), before = host.children[indexOf(table) - 1];
   // From the end of what is before, since nothing can be typed between blocks. What is behind stays as it is.
   if (isStart && before && isBlock(before)) return edgeOf(before, false);
   return [host.key, indexOf(table) + (isStart ? 0 : 1), 'element'];
-}
-
-/** The child of a host that has another one in it. */
-function tableIn(host, inner) {
-  let at = inner;
-  while (at.parent !== host) at = at.parent;
-  return at;
 }

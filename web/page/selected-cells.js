@@ -3,7 +3,7 @@
 import { cellsIn } from './cells.js';
 import { follow } from './tools.js';
 
-/** @param {import('./page.js').Page} page */
+/** @param {import('./page.js').AnyPage} page */
 export function showSelectedCells(page) {
   const { view } = page, sheet = new CSSStyleSheet();
   document.adoptedStyleSheets.push(sheet);
@@ -18,11 +18,15 @@ export function showSelectedCells(page) {
   });
 }
 
-/** The places of an element and of those around it, from the element of the view on. */
+/**
+ * The places of an element and of those around it, from the element of the view on.
+ * @param {Element} element
+ * @param {Element} top
+ */
 function selectorOf(element, top) {
   const places = [];
-  for (let at = element; at !== top; at = at.parentNode) {
-    places.unshift(`:nth-child(${Array.prototype.indexOf.call(at.parentNode.children, at) + 1})`);
+  for (let at = element; at !== top && at.parentElement; at = at.parentElement) {
+    places.unshift(`:nth-child(${Array.from(at.parentElement.children).indexOf(at) + 1})`);
   }
   return `#page > div > ${places.join(' > ')}`;
 }

@@ -13,9 +13,13 @@ import { mapPoint } from '../selection.js';
 const PAUSE = 500; // milliseconds until something is tried again
 const points = new Set(['text', 'element']);
 
-/** What a reply to a line is that was meant for what others have changed meanwhile. */
-export const overtaken = { refused: { cause: 'Overtaken', code: 0, detail: null, step: null } };
+/**
+ * What a reply to a line is that was meant for what others have changed meanwhile. The core has no such cause.
+ * @type {Reply & { refused: { cause: any } }}
+ */
+export const overtaken = /** @type {any} */ ({ refused: { cause: 'Overtaken', code: 0, detail: null, step: null } });
 
+/** @type {(entry: string) => number} */
 const numberOf = entry => Number(entry.split('.')[0]);
 const pause = () => new Promise(resolve => { setTimeout(resolve, PAUSE); });
 
@@ -124,10 +128,14 @@ export class Service {
     }
   }
 
-  /** A selection alone is sent with the lines behind it: others may select something else meanwhile. */
-  #isSelection([{ update }, ...others]) {
-    if (others.length > 0 || update?.length !== 1 || update[0].select === undefined) return false;
-    this.#selected = { value: update[0].select, isLost: false };
+  /**
+   * A selection alone is sent with the lines behind it: others may select something else meanwhile.
+   * @param {readonly Line[]} lines
+   */
+  #isSelection([line, ...others]) {
+    const [step, ...behind] = line?.update ?? [];
+    if (others.length > 0 || behind.length > 0 || step?.select === undefined) return false;
+    this.#selected = { value: step.select, isLost: false };
     this.#isToSelect = true;
     return true;
   }
@@ -142,12 +150,18 @@ export class Service {
     if (!isDrawn) this.#drawn = entry;
     this.#isToSelect = this.#drawn !== entry;
     const told = replies.findLast(({ selection }) => selection !== undefined);
-    if (told) this.#selected = { value: placesOf(told.selection), isLost: false };
+    if (told?.selection !== undefined) this.#selected = { value: placesOf(told.selection), isLost: false };
     else this.#isToSelect = true;
-    return isDrawn ? replies.map(({ ops, ...reply }) => reply) : replies;
+    return isDrawn ? replies.map(({ ops, ...reply }) => /** @type {Reply} */ (reply)) : replies;
   }
 
-  /** The answer to a request, which is asked until it is known; null if something is there that wasn't seen. */
+  /**
+   * The answer to a request, which is asked until it is known; null if something is there that wasn't seen.
+   * @param {string} request
+   * @param {readonly Line[]} lines
+   * @param {string} seen
+   * @param {boolean} isExact
+   */
   async #post(request, lines, seen, isExact) {
     const query = new URLSearchParams({ request, seen, exact: isExact ? '1' : '0' });
     const body = lines.map(line => `${JSON.stringify(line)}\n`).join('');
@@ -157,7 +171,7 @@ export class Service {
       }).catch(() => null);
       const text = await answer?.text().catch(() => null);
       if (answer?.ok && typeof text === 'string') {
-        return { entry: answer.headers.get('Entry'), replies: repliesIn(text) };
+        return { entry: answer.headers.get('Entry') ?? '', replies: repliesIn(text) };
       }
       if (answer?.status === 409) return null;
       if (answer && answer.status < 500) throw new Error(`This can’t be done: ${text}`);
@@ -165,7 +179,11 @@ export class Service {
     }
   }
 
-  /** Draws an entry, unless the answer to this page's own request came before. */
+  /**
+   * Draws an entry, unless the answer to this page's own request came before.
+   * @param {MessageEvent<string>} event
+   * @param {boolean} isBegin
+   */
   #take({ lastEventId, data }, isBegin) {
     if (numberOf(lastEventId) <= numberOf(this.#drawn)) return;
     if (isBegin && this.#drawn !== '0') return this.#onAnew();
@@ -182,19 +200,27 @@ const repliesIn = text => text.split('\n').filter(line => line !== '').map(line 
 /** @type {(lines: readonly Line[], selection: Selection) => Line} */
 const selecting = ([{ at }], selection) => ({ at, update: [{ select: selection }] });
 
+/** @param {import('../replies.js').ReplySelection} selection */
 function placesOf(selection) {
   if (selection === null) return null;
   const { kind, ...places } = selection;
   return places;
 }
 
+/** @type {(value: any[]) => boolean} */
 const isPoint = value => value.length === 3 && typeof value[0] === 'number' && points.has(value[2]);
 
-/** A value in which all points are where they are after a commit; undefined where that can't be told of one. */
+/**
+ * A value in which all points are where they are after a commit; undefined where that can't be told of one.
+ * @param {Hosts} hosts
+ * @param {readonly Operation[]} ops
+ * @param {any} value
+ * @returns {any}
+ */
 function movedAlong(hosts, ops, value) {
   if (typeof value !== 'object' || value === null) return value;
   if (Array.isArray(value)) {
-    if (isPoint(value)) return mapPoint(hosts, ops, value) ?? undefined;
+    if (isPoint(value)) return mapPoint(hosts, ops, /** @type {[number, number, 'text']} */ (value)) ?? undefined;
     const moved = value.map(one => movedAlong(hosts, ops, one));
     return moved.includes(undefined) ? undefined : moved;
   }

@@ -8,13 +8,18 @@ import { meantBy } from './commands.js';
 import { guardComposing } from './composing.js';
 import { showDirections } from './directions.js';
 import { listenToInput } from './input.js';
-import { placesOf } from './ranges.js';
+import { formatIn, placesOf } from './ranges.js';
 import { startLines } from './rules.js';
 import { Service, overtaken } from './service.js';
 
 /** @typedef {import('../lines.js').Line} Line */
 /** @typedef {import('../lines.js').Selection} Selection */
+/** @typedef {import('../replies.js').Operation} Operation */
 /** @typedef {import('../replies.js').Reply} Reply */
+/** @typedef {import('../replies.js').ReplySelection} ReplySelection */
+/** @typedef {import('./page.js').Act} Act */
+/** @typedef {import('./page.js').Events} Events */
+/** @typedef {import('./service.js').Followed} Followed */
 
 const OVERTAKEN = 'Somebody else has changed this place meanwhile: that wasn’t done.';
 
@@ -22,14 +27,15 @@ const OVERTAKEN = 'Somebody else has changed this place meanwhile: that wasn’t
 export class SharedPage {
   view;
   isShared = true;
-  /** @type {import('../replies.js').ReplySelection} */
+  /** @type {ReplySelection} */
   selection = null;
   /** What can be undone isn't told: it may be anyone's. */
   history = { undo: 1, redo: 1 };
-  /** @type {Map<string, Set<Function>>} */
+  /** @type {Map<string, Set<(...details: any) => void>>} */
   #listeners = new Map();
   #service;
   #session;
+  /** @type {Promise<unknown>} */
   #turn = Promise.resolve();
   #waiting = 0;
   #seen = 'null';
@@ -67,7 +73,7 @@ export class SharedPage {
 
   /**
    * Has lines answered in their turn, behind what is selected, as `Page.act`.
-   * @param {import('./page.js').Act | readonly import('./page.js').Act[]} lines
+   * @param {Act | readonly Act[]} lines
    * @param {Selection} [selected]
    * @returns {Promise<Reply[]>}
    */
@@ -79,7 +85,7 @@ export class SharedPage {
     try {
       return await done;
     } catch (error) {
-      this.notify(error.message);
+      this.notify(/** @type {Error} */ (error).message);
       return [];
     } finally {
       this.#service.leave(followed);
@@ -97,7 +103,11 @@ export class SharedPage {
     return { state: await this.#service.state() };
   }
 
-  /** @param {string} name @param {Function} listener */
+  /**
+   * @template {keyof Events} N
+   * @param {N} name
+   * @param {(...details: Events[N]) => void} listener
+   */
   on(name, listener) {
     const listeners = this.#listeners.get(name) ?? new Set();
     this.#listeners.set(name, listeners.add(listener));
@@ -123,7 +133,12 @@ export class SharedPage {
     return isOld ? null : selected;
   }
 
+  /**
+   * @param {Act[]} lines
+   * @param {Followed} followed
+   */
   async #perform(lines, followed) {
+    /** @type {Reply[]} */
     const replies = [];
     for (const [index, act] of lines.entries()) {
       const first = index === 0 ? followed.value : null;
@@ -138,15 +153,23 @@ export class SharedPage {
     return replies;
   }
 
+  /**
+   * @param {Line} line
+   * @param {Selection} selected
+   * @returns {Promise<Reply>}
+   */
   async #do(line, selected, isRepeated = false) {
-    const { hosts } = this.view, format = this.selection?.format ?? 0;
+    const { hosts } = this.view, format = formatIn(this.selection);
     const { lines, selection, isToRepeat } = meantBy(hosts, line, selected ?? placesOf(this.selection), format);
     const replies = lines.length > 0 || selection ? await this.#session.do(lines, selection) : [];
     const reply = replies.find(({ refused }) => refused) ?? replies.at(-1) ?? { idle: true };
     return isToRepeat && !isRepeated && !reply.refused ? this.#do(line, null, true) : reply;
   }
 
-  /** What others did: all that is meant for this document moves along with it. */
+  /**
+   * What others did: all that is meant for this document moves along with it.
+   * @param {Reply[]} replies
+   */
   #takeOthers(replies) {
     const own = this.#service.follow(this.selection), shown = this.#service.follow(this.selected);
     this.#redraw(() => {
@@ -158,6 +181,10 @@ export class SharedPage {
     this.#look();
   }
 
+  /**
+   * @param {Reply} reply
+   * @param {Line} line
+   */
   #learn(reply, line) {
     this.#redraw(() => {
       if (reply.ops) this.#draw(reply.ops, false);
@@ -166,7 +193,11 @@ export class SharedPage {
     this.#emit('told', { line, reply });
   }
 
-  /** Draws, and shows what is selected then. While acts wait, that isn't taken for what the reader has selected. */
+  /**
+   * Draws, and shows what is selected then. While acts wait, that isn't taken for what the reader has selected.
+   * @param {() => void} draw
+   * @param {() => ReplySelection} selection
+   */
   #redraw(draw, selection) {
     const isOld = JSON.stringify(this.selected) === this.#seen;
     draw();
@@ -175,6 +206,10 @@ export class SharedPage {
     if (isOld) this.#seen = JSON.stringify(this.selected);
   }
 
+  /**
+   * @param {readonly Operation[]} ops
+   * @param {boolean} isOthers
+   */
   #draw(ops, isOthers) {
     this.#emit('changing');
     if (isOthers) this.#service.moveAlong(this.view.hosts, ops);
@@ -197,6 +232,11 @@ export class SharedPage {
     this.#emit('settled');
   }
 
+  /**
+   * @template {keyof Events} N
+   * @param {N} name
+   * @param {Events[N]} details
+   */
   #emit(name, ...details) {
     for (const listener of this.#listeners.get(name) ?? []) listener(...details);
   }

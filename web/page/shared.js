@@ -7,7 +7,7 @@ import { SharedPage } from './shared-page.js';
 import { tableToolbar } from './table-toolbar.js';
 import { toolbar } from './toolbar.js';
 
-const part = name => document.getElementById(name);
+const part = (/** @type {string} */ name) => /** @type {HTMLElement} */ (document.getElementById(name));
 const name = new URLSearchParams(location.search).get('document') ?? 'plan';
 
 document.title = `${name} - Vaultsatin`;

@@ -2,7 +2,10 @@
 
 const isApple = /Mac|iPhone|iPad/.test(navigator.platform);
 
-/** What the parts are called on a button's label. */
+/**
+ * What the parts are called on a button's label.
+ * @type {Record<string, string>}
+ */
 const names = isApple
   ? { Mod: '⌘', Shift: '⇧', Alt: '⌥' }
   : { Mod: 'Ctrl', Shift: 'Shift', Alt: 'Alt' };
@@ -37,13 +40,16 @@ export function isModHeld({ ctrlKey, metaKey }) {
  * @param {string} keys
  */
 export function isPressed(event, keys) {
-  const held = keys.split('+'), last = held.pop();
+  const held = keys.split('+'), last = held.pop() ?? '';
   if (isModHeld(event) !== held.includes('Mod') || event.shiftKey !== held.includes('Shift')) return false;
   if (event.altKey !== held.includes('Alt') || event.getModifierState('AltGraph')) return false;
   return /^\d$/.test(last) ? event.code === `Digit${last}` : nameOf(event) === last.toLowerCase();
 }
 
-/** Signs in the names of keys, by the keys' places. */
+/**
+ * Signs in the names of keys, by the keys' places.
+ * @type {Record<string, string>}
+ */
 const signs = { BracketLeft: '[', BracketRight: ']', Backslash: '\\', Comma: ',', Period: '.' };
 
 /**

@@ -54,7 +54,10 @@ export function textOf(nodes) {
   return nodes.map(node => blockText(node, 0)).join('\n\n');
 }
 
-/** @param {Node} node */
+/**
+ * @param {Node} node
+ * @returns {string}
+ */
 function inlineText(node) {
   if (node.type === 'text') return node.text;
   if (node.type === 'tab') return '\t';

@@ -115,10 +115,10 @@ class Kept {
       page.notify('This document had been changed very often: what can be undone begins here.');
     }
     if (this.#log.size === 0) this.#waiting.push(...page.begun);
-    page.on('told', (/** @type {any} */ { line, reply }) => {
+    page.on('told', ({ line, reply }) => {
       if (!isToKeep(line, reply)) return;
       this.#waiting.push(line);
-      this.#isChanged ||= reply.ops?.length > 0; // what is only selected makes no document of a new one
+      this.#isChanged ||= (reply.ops?.length ?? 0) > 0; // what is only selected makes no document of a new one
       this.#timer ??= setTimeout(() => this.#write(page), this.#isFull ? LONG_PAUSE : PAUSE);
     });
     setInterval(() => this.#hold(), HOLD);

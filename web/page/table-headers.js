@@ -2,7 +2,7 @@
 import { cellAt, tableOf } from './cells.js';
 
 /** @typedef {import('../hosts.js').Host} Host */
-/** @typedef {import('./page.js').Page} Page */
+/** @typedef {import('./page.js').AnyPage} Page */
 
 /** The bits of a cell's `headerState`. */
 const bits = { row: 1, column: 2 };
@@ -17,10 +17,15 @@ export function tableAt(page) {
   return tableOf(cellAt(page.view.hosts, selection));
 }
 
-/** The cells of the first row, or those that begin each row. */
+/**
+ * The cells of the first row, or those that begin each row.
+ * @param {Host} table
+ * @param {'row' | 'column'} side
+ * @returns {readonly Host[]}
+ */
 function cellsOf(table, side) {
   const rows = table.children;
-  return side === 'row' ? rows[0]?.children ?? [] : rows.map(row => row.children[0]).filter(Boolean);
+  return side === 'row' ? rows[0]?.children ?? [] : rows.flatMap(row => row.children[0] ?? []);
 }
 
 /**

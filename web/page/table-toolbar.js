@@ -1,11 +1,22 @@
 // The small bar of a table, below that of the page: there it hides no line next to the table.
+import { cellAt } from './cells.js';
+import { all, closest } from './elements.js';
+import { isOfCells, placesOf } from './ranges.js';
 import { showSelectedCells } from './selected-cells.js';
 import { hasHeaders, headerSteps, tableAt } from './table-headers.js';
 import { follow, followArrows, group, stopAt, tool, toolsSeen } from './tools.js';
 
+/** @typedef {import('./page.js').AnyPage} Page */
+/** @typedef {import('../lines.js').Line} Line */
+/**
+ * @typedef {{ label: string, icon: import('./icons.js').Name, lines: (page: Page) => Line,
+ *   isPressed?: (page: Page) => boolean, isOff?: (page: Page) => boolean }} Control
+ */
+
+/** @type {(name: string, payload?: string) => () => Line} */
 const command = (name, payload) => () => payload === undefined ? { dispatch: name } : { dispatch: name, payload };
 
-/** @type {Record<string, { label: string, icon: string, lines: Function, isPressed?: Function, isOff?: Function }>} */
+/** @type {Record<string, Control>} */
 const controls = {
   'row-before': { label: 'Row above', icon: 'row-before', lines: command('insert-row', 'before') },
   'row-after': { label: 'Row below', icon: 'row-after', lines: command('insert-row', 'after') },
@@ -37,7 +48,7 @@ const groups = [
 
 /**
  * Puts the bar into the element of the page's bar. It is shown while the caret is in a table.
- * @param {import('./page.js').Page} page
+ * @param {Page} page
  * @param {HTMLElement} element
  * @returns {HTMLElement} the bar
  */
@@ -51,9 +62,9 @@ export function tableToolbar(page, element) {
   element.append(bar);
   bar.addEventListener('mousedown', event => event.preventDefault()); // what is selected stays so
   bar.addEventListener('click', async ({ target }) => {
-    const button = target.closest('.tool');
+    const button = closest(target, '.tool');
     if (!button || button.ariaDisabled === 'true') return;
-    await page.act(controls[button.dataset.command].lines(page));
+    await page.act(controls[button.dataset.command ?? ''].lines(page));
     page.focus();
   });
   followArrows(bar);
@@ -62,8 +73,8 @@ export function tableToolbar(page, element) {
     const isHidden = tableAt(page) === null;
     if (bar.hidden !== isHidden) bar.hidden = isHidden; // to hide it once more would have its style looked up anew
     if (isHidden) return;
-    for (const button of bar.querySelectorAll('.tool')) {
-      const { isPressed, isOff } = controls[button.dataset.command];
+    for (const button of all(bar, '.tool')) {
+      const { isPressed, isOff } = controls[button.dataset.command ?? ''];
       if (isPressed) button.ariaPressed = String(isPressed(page));
       if (isOff) button.ariaDisabled = String(isOff(page));
     }
@@ -72,12 +83,14 @@ export function tableToolbar(page, element) {
   return bar;
 }
 
-const hasCells = page => (page.selected ?? page.selection)?.table !== undefined;
+/** @type {(page: Page) => boolean} */
+const hasCells = page => isOfCells(page.selected ?? page.selection);
 
-/** Whether the cell with the caret has come of several. */
-function isMerged(page) {
-  const cell = document.activeElement && getSelection().focusNode;
-  const element = cell?.closest ? cell : cell?.parentElement;
-  const around = element?.closest('td, th');
-  return Boolean(around && (around.colSpan > 1 || around.rowSpan > 1));
+/**
+ * Whether the cell with the caret has come of several.
+ * @param {Page} page
+ */
+function isMerged({ selected, selection, view: { hosts } }) {
+  const cell = cellAt(hosts, selected ?? placesOf(selection));
+  return ['colspan', 'rowspan'].some(name => Number(cell?.attributes.get(name) ?? 1) > 1);
 }

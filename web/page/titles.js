@@ -3,7 +3,7 @@ import { follow } from './tools.js';
 
 /**
  * The text of the first block that has one; nothing where none has.
- * @param {import('./page.js').Page} page
+ * @param {import('./page.js').AnyPage} page
  */
 export function titleOf({ view }) {
   for (const host of view.hosts.root.children) {
@@ -15,7 +15,7 @@ export function titleOf({ view }) {
 
 /**
  * Calls the tab, and what is printed, as the document.
- * @param {import('./page.js').Page} page
+ * @param {import('./page.js').AnyPage} page
  */
 export function showTitle(page) {
   const unnamed = document.title;

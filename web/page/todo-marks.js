@@ -40,7 +40,7 @@ function partsOf(list) {
   for (const item of childrenOf(list)) {
     const found = markOf(item), isNesting = childrenOf(item)[0]?.type === 'list', part = parts.at(-1);
     const listType = isNesting && part ? part.listType : found ? 'check' : list.listType;
-    if (part?.listType === listType) part.children?.push(found ? checked(item, found) : item);
+    if (part && part.listType === listType) part.children?.push(found ? checked(item, found) : item);
     else parts.push({ ...partOf(list, listType), children: [found ? checked(item, found) : item] });
   }
   parts.forEach(number);

@@ -1,11 +1,17 @@
 // Buttons in a bar: how they look, how keys go through them, and when they look at the document.
+import { all, closest } from './elements.js';
 import { icon } from './icons.js';
 import { shown, spoken } from './shortcuts.js';
 
 /**
+ * What a button shows.
+ * @typedef {{ label: string, icon: import('./icons.js').Name, keys?: string, level?: number, isPressed?: Function }} Tool
+ */
+
+/**
  * A button of a bar.
  * @param {string} name
- * @param {{ label: string, icon: string, keys?: string, level?: number, isPressed?: Function }} control
+ * @param {Tool} control
  */
 export function tool(name, control) {
   const button = document.createElement('button');
@@ -16,7 +22,7 @@ export function tool(name, control) {
   button.ariaLabel = control.label;
   button.title = control.keys ? `${control.label} (${shown(control.keys)})` : control.label;
   if (control.keys) button.setAttribute('aria-keyshortcuts', spoken(control.keys));
-  if (control.level) button.dataset.level = control.level;
+  if (control.level) button.dataset.level = String(control.level);
   if (control.isPressed) button.ariaPressed = 'false';
   button.append(icon(control.icon));
   return button;
@@ -33,12 +39,15 @@ export function group(children) {
   element.append(...children);
   const buttons = children.filter(child => child.classList.contains('tool'));
   const level = Math.min(...buttons.map(({ dataset }) => Number(dataset.level ?? 0)));
-  if (level > 0) element.dataset.level = level; // a group without a button isn't shown
+  if (level > 0) element.dataset.level = String(level); // a group without a button isn't shown
   return element;
 }
 
-/** The buttons that can be seen. */
-export const toolsSeen = bar => [...bar.querySelectorAll('.tool')].filter(button => button.getClientRects().length > 0);
+/**
+ * The buttons that can be seen.
+ * @type {(bar: Element) => HTMLElement[]}
+ */
+export const toolsSeen = bar => all(bar, '.tool').filter(button => button.getClientRects().length > 0);
 
 /**
  * Left and Right, Home and End move in a bar, of which one button is reached by Tab.
@@ -46,15 +55,15 @@ export const toolsSeen = bar => [...bar.querySelectorAll('.tool')].filter(button
  */
 export function followArrows(bar) {
   bar.addEventListener('keydown', event => {
-    if (!event.target.classList.contains('tool')) return;
-    const all = toolsSeen(bar), at = all.indexOf(event.target);
-    const to = { ArrowRight: at + 1, ArrowLeft: at - 1 + all.length, Home: 0, End: all.length - 1 }[event.key];
-    if (to === undefined) return;
+    const seen = toolsSeen(bar), at = seen.findIndex(button => button === event.target);
+    const to = { ArrowRight: at + 1, ArrowLeft: at - 1 + seen.length, Home: 0, End: seen.length - 1 }[event.key];
+    if (at < 0 || to === undefined) return;
     event.preventDefault();
-    all[to % all.length].focus();
+    seen[to % seen.length].focus();
   });
   bar.addEventListener('focusin', ({ target }) => {
-    if (target.classList.contains('tool')) stopAt(bar, target);
+    const button = closest(target, '.tool');
+    if (button) stopAt(bar, button);
   });
   requestAnimationFrame(() => stopAt(bar, toolsSeen(bar)[0]));
 }
@@ -65,18 +74,18 @@ export function followArrows(bar) {
  * @param {Element} [button]
  */
 export function stopAt(bar, button) {
-  for (const other of bar.querySelectorAll('.tool')) other.tabIndex = other === button ? 0 : -1;
+  for (const other of all(bar, '.tool')) other.tabIndex = other === button ? 0 : -1;
 }
 
 /**
  * What follows a page, and what has it look soon. All share one request for a frame: each costs a key some time.
- * @type {WeakMap<import('./page.js').Page, { listeners: (() => void)[], soon: () => void }>}
+ * @type {WeakMap<import('./page.js').AnyPage, { listeners: (() => void)[], soon: () => void }>}
  */
 const following = new WeakMap();
 
 /**
  * Calls a listener after acts, and when the caret has moved, at most once for each picture that the browser draws.
- * @param {import('./page.js').Page} page
+ * @param {import('./page.js').AnyPage} page
  * @param {() => void} listener
  */
 export function follow(page, listener) {
@@ -85,7 +94,7 @@ export function follow(page, listener) {
   soon();
 }
 
-/** @param {import('./page.js').Page} page */
+/** @param {import('./page.js').AnyPage} page */
 function beginFollowing(page) {
   /** @type {(() => void)[]} */
   const listeners = [];
@@ -95,7 +104,13 @@ function beginFollowing(page) {
     isWaiting = true;
     requestAnimationFrame(() => {
       isWaiting = false;
-      for (const listener of listeners) listener();
+      for (const listener of listeners) {
+        try {
+          listener();
+        } catch (error) {
+          reportError(error); // the others look all the same
+        }
+      }
     });
   };
   page.on('settled', soon);

@@ -1,7 +1,7 @@
 // The types, by TypeScript's compiler if it is there: what is taken and answered has them, and what is wrong hasn't.
 import assert from 'node:assert/strict';
 import { spawnSync } from 'node:child_process';
-import { writeFileSync } from 'node:fs';
+import { readdirSync, writeFileSync } from 'node:fs';
 import { join } from 'node:path';
 import test from 'node:test';
 import { optionsOf } from '../words.js';
@@ -122,4 +122,13 @@ const modules = 'lexical.js cli.mjs hosts.js dom.js safe.js selection.js session
 test('the package has the types that it tells', { skip }, () => {
   const files = [join(web, 'test', 'node.d.ts'), ...modules.map(file => join(web, file))];
   assert.deepEqual(compilerSays('--allowJs', '--checkJs', ...files), []);
+});
+
+test('the page is typed', { skip }, () => {
+  const scripts = readdirSync(join(web, 'page')).filter(file => file.endsWith('.js'));
+  const declared = ['test/node.d.ts', 'test/page/browser.d.ts'], files = scripts.map(file => join('page', file));
+  const lib = ['--lib', 'es2022,dom,dom.iterable'];
+  const all = [...declared, ...files].map(file => join(web, file));
+  assert.deepEqual(compilerSays('--allowJs', '--checkJs', ...lib, ...all), []);
+  assert.ok(files.length > 40, `${files.length} scripts`);
 });
