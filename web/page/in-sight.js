@@ -1,4 +1,5 @@
 // Keeps the caret in sight. A browser scrolls to what it types itself; here it types nothing.
+import { all } from './elements.js';
 import { follow } from './tools.js';
 
 const ROOM = 24; // pixels that are left between the caret and the edge of what can be seen
@@ -47,7 +48,8 @@ function scrollToCaret(page) {
   const { focusNode = null, focusOffset = 0 } = getSelection() ?? {};
   if (focusNode === null || !page.view.element.contains(focusNode)) return false;
   const place = placeOfCaret({ focusNode, focusOffset });
-  const bars = Array.from(document.querySelectorAll('#bar, .table-bar'), each => each.getBoundingClientRect().bottom);
+  const bar = /** @type {HTMLElement} */ (document.getElementById('bar'));
+  const bars = [bar, ...all(bar, '.table-bar')].map(each => each.getBoundingClientRect().bottom);
   const ceiling = Math.max(0, ...bars) + ROOM / 2, floor = document.documentElement.clientHeight - ROOM;
   const tooHigh = place.top - ceiling, tooLow = place.bottom - floor;
   const top = tooHigh < 0 ? tooHigh : tooLow > 0 ? Math.min(tooLow, tooHigh) : 0;

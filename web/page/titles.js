@@ -6,9 +6,11 @@ import { follow } from './tools.js';
  * @param {import('./page.js').AnyPage} page
  */
 export function titleOf({ view }) {
-  for (const host of view.hosts.root.children) {
-    const text = view.elementOf(host).textContent?.trim() ?? '';
-    if (text !== '') return text.slice(0, 60);
+  const texts = document.createTreeWalker(view.element, NodeFilter.SHOW_TEXT); // not all blocks: there may be many
+  for (let node = texts.nextNode(); node !== null; node = texts.nextNode()) {
+    let block = node.nodeValue?.trim() ? view.hostAround(node) : null;
+    while (block?.parent?.parent) block = block.parent;
+    if (block !== null) return (view.elementOf(block).textContent ?? '').trim().slice(0, 60);
   }
   return '';
 }
