@@ -28,7 +28,7 @@ export function guardComposing(page) {
 
   /** Whether there was anything to take back. */
   function takeBack() {
-    const isChanged = changes.length > 0;
+    if (changes.length === 0) return false;
     for (const { type, target, oldValue, addedNodes, removedNodes, nextSibling } of changes.reverse()) {
       if (type === 'characterData') {
         /** @type {CharacterData} */ (target).data = oldValue ?? '';
@@ -39,7 +39,7 @@ export function guardComposing(page) {
     }
     changes = [];
     observer.takeRecords(); // what was just done
-    return isChanged;
+    return true;
   }
 
   page.on('changing', () => {

@@ -98,11 +98,12 @@ export function listenToInput(page) {
  */
 function input(page, event) {
   const { inputType } = event, text = event.data ?? event.dataTransfer?.getData('text/plain') ?? '';
-  const isTyped = inputType === 'insertText' && event.getTargetRanges()[0]?.collapsed === true; // as nearly all is
-  const target = isTyped ? null : targetOf(page, event), selected = target ?? page.selected;
+  const hasBreaks = /[\r\n]/.test(text);
+  if (inputType === 'insertText' && !hasBreaks && event.getTargetRanges()[0]?.collapsed) return type(page, text);
+  const target = targetOf(page, event), selected = target ?? page.selected;
   // Where there is a caret, and a word is meant, a keyboard corrects what was typed before.
   const isCorrection = target !== null && !isCaret(target) && isCaret(page.selected);
-  if (inputType.startsWith('insert') && /[\r\n]/.test(text)) return insert(page, { text }, selected);
+  if (inputType.startsWith('insert') && hasBreaks) return insert(page, { text }, selected);
   if (inputType === 'insertText' && !isCorrection) return type(page, text);
   if (inputType === 'insertParagraph') return enter(page);
   if (inputType === 'insertLink' && text !== '') return page.act(command('link', text));

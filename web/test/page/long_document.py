@@ -26,6 +26,17 @@ const index = texts.findIndex(text => text.key === selected.focus[0]);
 return [index, selected.focus[1], texts[index]?.text.length];
 """
 
+TURNS = r"""
+window.turns = 0;
+const ask = requestAnimationFrame;
+window.requestAnimationFrame = listener => {
+  turns += 1;
+  return ask(listener);
+};
+"""
+MOST = {'turns': 20, 'LayoutCount': 20, 'RecalcStyleCount': 3}  # with some room for what else goes on
+COUNTED = list(MOST)
+
 GROUPS = 'return Array.from(page.view.element.children, group => group.children.length)'
 IS_SEEN = r"""
 const { top, bottom } = getSelection().getRangeAt(0).getBoundingClientRect();
@@ -74,12 +85,34 @@ def grouped(page, results):
     results.add('all comes back', found)
 
 
+def counted(page, results):
+    """A letter asks for one picture, for which the browser makes one layout and looks up no style. These are counts, as
+    times depend on what else the machine does."""
+    page.driver.execute_script(CARET, EDGE, 5)
+    page.driver.execute_script(TURNS)
+    page.driver.execute_cdp_cmd('Performance.enable', {})
+    page.type('one', 0.1)
+    before = counts(page)
+    page.type('a line of letters', 0.05)
+    page.rest()
+    told = [f'{count} {name} for 17 letters' for name, count in zip(COUNTED, map(int.__sub__, counts(page), before))
+            if count > MOST[name]]
+    results.add('what a letter has the browser do', told)
+
+
+def counts(page):
+    metrics = page.driver.execute_cdp_cmd('Performance.getMetrics', {})['metrics']
+    found = {metric['name']: int(metric['value']) for metric in metrics}
+    return [page.driver.execute_script('return turns'), *(found[name] for name in COUNTED[1:])]
+
+
 def main():
     results = Results()
     with opened() as page:
         page.anew()
         page.act({'load': document(BLOCKS)})
         moved(page, results)
+        counted(page, results)
         grouped(page, results)
         return results.end(page)
 
