@@ -31,7 +31,8 @@ from checking.trial import RULES, Asked, Trial, Worker
 
 COLUMNS = "document, number, id, epoch, request, lines, replies"
 PROGRAM, STAND_IN = SERVICE.parent / "crates/lexical/out/lexical", SERVICE / "checking/stand_in.py"
-WRONG = re.compile('"trace"|another version')  # in what a worker tells: all have one version
+WRONG = re.compile('"trace"|Traceback|another version')  # in what a worker tells: all have one version
+CHANGING = re.compile(r"[0-9]+(\.[0-9a-f]{32})?")  # in what is wrong
 SETTLE_SECONDS = 20  # for readers, at the end
 MOST_SECONDS = 400  # beside the seconds with faults: whatever is wrong, the check ends
 
@@ -77,7 +78,8 @@ async def work(trial: Trial, words: argparse.Namespace, ground: Cluster | File) 
 
 async def check(words: argparse.Namespace, folder: pathlib.Path) -> list[str]:
     """What is wrong."""
-    ground, rows = File(folder) if words.sqlite else Cluster(folder), list[Row]()
+    ground: Cluster | File = File(folder) if words.sqlite else Cluster(folder)
+    rows = list[Row]()
     options = [*ground.options, "--processes", "12", "--epoch", "40000", "--idle", "600"]
     options += ["--core"] if words.core else ["--program", str(words.program.resolve())]
     answers = ["node", str(SERVICE.parent / "web/cli.mjs")] if words.core else [str(words.program.resolve())]
@@ -93,6 +95,8 @@ async def check(words: argparse.Namespace, folder: pathlib.Path) -> list[str]:
             trial.wrong.append("the check doesn't come to its end")
         finally:
             for worker in trial.workers:
+                if (status := worker.process.poll()) not in (None, -signal.SIGKILL, -signal.SIGTERM):
+                    trial.wrong.append(f"a worker ended by itself: {status}\n{worker.told()}")
                 worker.process.kill()
                 worker.process.wait()
                 text = worker.log.read_text(encoding="utf-8")
@@ -103,6 +107,11 @@ async def check(words: argparse.Namespace, folder: pathlib.Path) -> list[str]:
     trial.counts.update({"requests": len(trial.asked), "rows": len(rows), "epochs": len(epochs)})
     print(", ".join(f"{count} {what}" for what, count in sorted(trial.counts.items())), flush=True)
     return trial.wrong + (list(faults(rows, trial, answers)) if rows else ["there are no rows"])
+
+
+def kind_of(wrong: str) -> str:
+    """What is wrong, without its details, names and numbers."""
+    return CHANGING.sub("0", wrong.partition("\n")[0])
 
 
 def main() -> None:
@@ -129,7 +138,10 @@ def main() -> None:
         if os.getuid() == 0:
             shutil.chown(folder, "postgres")
         wrong = asyncio.run(check(words, folder))
-    print(*wrong[:20], f"{len(wrong)} wrong" if wrong else "all is right", sep="\n")
+    kinds = Counter(kind_of(it) for it in wrong)
+    for kind, count in kinds.items():
+        print(f"{count} times wrong, as here:", next(it for it in wrong if kind_of(it) == kind))
+    print(f"{len(wrong)} wrong" if wrong else "all is right")
     sys.exit(1 if wrong else 0)
 
 

@@ -22,6 +22,20 @@ def children(process: int) -> list[int]:
     return []
 
 
+def programs(worker: int) -> list[int]:
+    """The processes of `lexical` that a worker has begun. One that isn't `lexical` yet still has the worker's words, and
+    its sockets: if it were stopped then, and the worker killed, it would have the worker's port for good."""
+    own = words_of(worker)
+    return [it for it in children(worker) if words_of(it) not in (own, b"")]
+
+
+def words_of(process: int) -> bytes:
+    """With which a process was begun; none where it has ended."""
+    with contextlib.suppress(FileNotFoundError, ProcessLookupError):
+        return pathlib.Path(f"/proc/{process}/cmdline").read_bytes()
+    return b""
+
+
 def send(processes: list[int], what: signal.Signals = signal.SIGKILL) -> None:
     """Sends a signal to those that are still there."""
     for process in processes:
@@ -61,8 +75,7 @@ class Cluster:
 
     def pause_first(self, seconds: float) -> None:
         """Stops it for longer than anybody waits."""
-        stopped = self._processes(self.first)
-        send(stopped, signal.SIGSTOP)
+        stopped = self._stopped(self.first)
         time.sleep(seconds)
         send(stopped, signal.SIGCONT)
 
@@ -87,14 +100,17 @@ class Cluster:
         """Ends both."""
         for data in (self.first, self.second):
             with contextlib.suppress(FileNotFoundError):
-                send(self._processes(data))
+                send(self._stopped(data))
 
-    def _processes(self, data: pathlib.Path) -> list[int]:
+    def _stopped(self, data: pathlib.Path) -> list[int]:
+        """All its processes, stopped: first the one that begins the others, so that none is missed."""
         postmaster = int((data / "postmaster.pid").read_text(encoding="ascii").split()[0])
-        return [postmaster, *children(postmaster)]
+        send([postmaster], signal.SIGSTOP)
+        send(others := children(postmaster), signal.SIGSTOP)
+        return [postmaster, *others]
 
     def _kill(self, data: pathlib.Path) -> None:
-        send(gone := self._processes(data))
+        send(gone := self._stopped(data))
         ends = time.monotonic() + GONE_SECONDS
         while any(pathlib.Path(f"/proc/{it}").exists() for it in gone):
             if time.monotonic() > ends:
@@ -102,7 +118,8 @@ class Cluster:
             time.sleep(0.01)
 
     def _start(self, data: pathlib.Path, port: int) -> None:
-        self._run("pg_ctl", "-D", data, "-l", f"{data}.log", "-o", f"-k {self.folder} -p {port} -h ''", "-w", "start")
+        self._run("pg_ctl", "-D", data, "-l", f"{data}.log", "-o", f"-k {self.folder} -p {port} -h ''", "-w",
+                  "-t", int(RUN_SECONDS) - 10, "start")
 
     def _run(self, program: str, *words: object) -> None:
         """PostgreSQL doesn't run as root."""

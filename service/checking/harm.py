@@ -10,7 +10,7 @@ from typing import NamedTuple
 
 import aiohttp
 
-from .cluster import Cluster, children, send
+from .cluster import Cluster, programs, send
 from .file import File, fill_disk
 from .trial import CARET, HEADERS, RULES, Asked, Trial, Worker
 
@@ -26,6 +26,7 @@ class Act(NamedTuple):
     what: str
     act: Callable[[], Awaitable[None]]
     is_alone: bool = False  # all workers are awake, and nothing is done to them meanwhile
+    is_away: bool = False  # there is no log meanwhile
 
 
 class Harm:
@@ -38,8 +39,8 @@ class Harm:
         self._tasks: list[asyncio.Task[None]] = []
 
     def _of_cluster(self, cluster: Cluster) -> list[Act]:
-        return [Act("databases started again", in_thread(cluster.restart_first)),
-                Act("databases stopped for a while", in_thread(lambda: cluster.pause_first(14))),
+        return [Act("databases started again", in_thread(cluster.restart_first), is_away=True),
+                Act("databases stopped for a while", in_thread(lambda: cluster.pause_first(14)), is_away=True),
                 Act("times connections were dropped", in_thread(cluster.drop_connections)),
                 Act("databases lost", lambda: self.lose_first(cluster), True),
                 Act("times connections were dropped", in_thread(cluster.drop_connections))]
@@ -51,22 +52,26 @@ class Harm:
     async def days(self, seconds: float) -> None:
         """All of it, spread over so many seconds."""
         begun, acts = time.monotonic(), list(self._acts)
-        day: asyncio.Future[None] | None = None
+        day: asyncio.Task[None] | None = None
         while (passed := time.monotonic() - begun) < seconds or acts:
             due = seconds * (len(self._acts) - len(acts) + 0.5) / len(self._acts)
             if acts and passed > due and (day is None or day.done()):
                 if day:
                     day.result()
-                what, act, is_alone = acts.pop(0)
+                what, act, is_alone, is_away = acts.pop(0)
                 self._trial.counts[what] += 1
                 if is_alone:
                     await asyncio.gather(*self._tasks)
                     await act()
                 else:
-                    day = asyncio.ensure_future(act())
+                    day = asyncio.create_task(self._begin(act, is_away))
             await self._one(random.choice(self._trial.workers))
             await asyncio.sleep(random.uniform(0, 1))
         await asyncio.gather(*self._tasks, *([day] if day else []))
+
+    async def _begin(self, act: Callable[[], Awaitable[None]], is_away: bool) -> None:
+        with self._trial.without_log() if is_away else contextlib.nullcontext():
+            await act()
 
     async def _one(self, worker: Worker) -> None:
         chance = random.random()
@@ -76,7 +81,7 @@ class Harm:
             self._tasks.append(asyncio.create_task(self._rest(worker)))
         elif chance < 0.6:
             what = random.choice([signal.SIGKILL, signal.SIGKILL, signal.SIGSTOP])
-            some = children(worker.process.pid)
+            some = programs(worker.process.pid)
             send(random.sample(some, min(3, len(some))), what)
             self._trial.counts[f"processes with {what.name}"] += min(3, len(some))
         else:
@@ -93,14 +98,17 @@ class Harm:
         self._resting.remove(worker)
 
     async def _end(self, worker: Worker, how: signal.Signals) -> None:
+        left = programs(worker.process.pid)
         worker.process.send_signal(how)
         try:
             status: object = await asyncio.to_thread(worker.process.wait, END_SECONDS)
         except subprocess.TimeoutExpired:
             status = f"nothing for {END_SECONDS} seconds"
             worker.process.kill()
+            worker.process.wait()
         if status not in (0, -how):
-            self._trial.wrong.append(f"a worker ended wrongly by {how.name}: {status}")
+            self._trial.wrong.append(f"a worker ended wrongly by {how.name}: {status}\n{worker.told()}")
+        send(left, signal.SIGCONT)  # those that were stopped would outlive it
         self._trial.counts[f"workers ended by {how.name}"] += 1
 
     async def lose_first(self, cluster: Cluster) -> None:
@@ -111,13 +119,14 @@ class Harm:
         before = await self._begin_witnesses()
         for name in before:
             before[name] = await self._pass_epoch(name, before[name], onlooker, maker)
-        await asyncio.to_thread(cluster.lose_second)
-        for is_done in await asyncio.gather(*(self._do_lost(it, before[it], maker) for it in before)):
-            self._trial.counts["answers without a standby"] += is_done
-        await self._end(maker, signal.SIGKILL)
-        await asyncio.to_thread(cluster.restart_first)
-        lost = await self._lost_entries(before, onlooker)
-        await asyncio.to_thread(cluster.lose_first)
+        with self._trial.without_log():
+            await asyncio.to_thread(cluster.lose_second)
+            for is_done in await asyncio.gather(*(self._do_lost(it, before[it], maker) for it in before)):
+                self._trial.counts["answers without a standby"] += is_done
+            await self._end(maker, signal.SIGKILL)
+            await asyncio.to_thread(cluster.restart_first)
+            lost = await self._lost_entries(before, onlooker)
+            await asyncio.to_thread(cluster.lose_first)
         await self._is_well(onlooker)
         await self._go_on(before, lost, onlooker)
         maker.start()

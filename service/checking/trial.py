@@ -27,7 +27,7 @@ COMMANDS = [("make-list", "bullet"), ("make-list", "check"), ("indent", None), (
             ("delete-word", "back"), ("sign", None), ("format-text", "bold"), ("insert-text", "a\U0001f339"),
             ("select-all", None)]
 FAULTS = (aiohttp.ClientError, TimeoutError)
-ANSWER_SECONDS = 120.0  # in which a request is answered at last, whatever goes wrong
+ANSWER_SECONDS = 120.0  # with a log in which a request is answered at last, whatever else goes wrong
 LATER_SECONDS = 5.0  # the same, once one wasn't
 SOME = 50  # requests of a client that it may ask again
 
@@ -44,9 +44,14 @@ class Worker:
 
     def start(self) -> None:
         """Begins it, also anew. Its folder is the current one, of which Python takes the service."""
+        self._told = self.log.stat().st_size if self.log.exists() else 0
         environment = {**os.environ, "PYTHONPATH": str(self._folder), "PYTHONDONTWRITEBYTECODE": "1"}
         with self.log.open("ab") as log:
             self.process = subprocess.Popen(self._words, stdout=log, stderr=log, env=environment, cwd=self._folder)
+
+    def told(self) -> str:
+        """The last of what it has told since it was begun."""
+        return self.log.read_bytes()[self._told:].decode(errors="replace")[-1500:].rstrip()
 
     def url(self, path: str) -> str:
         """An address of it."""
@@ -92,6 +97,23 @@ class Trial:
     patience: float = ANSWER_SECONDS
     wrong: list[str] = field(default_factory=list)
     counts: Counter[str] = field(default_factory=Counter)
+    _passed: float = 0.0  # seconds without a log
+    _away_since: float | None = None
+
+    @contextlib.contextmanager
+    def without_log(self) -> Iterator[None]:
+        """There is no log meanwhile, so nobody is to blame for no answer."""
+        self._away_since = begun = time.monotonic()
+        try:
+            yield
+        finally:
+            self._away_since = None
+            self._passed += (passed := time.monotonic() - begun)
+            self.counts["seconds without a log"] += round(passed)
+
+    def clock(self) -> float:
+        """Seconds with a log, from some moment on."""
+        return (self._away_since or time.monotonic()) - self._passed
 
     def url(self, document: str, what: str, worker: Worker | None = None) -> str:
         """An address of a document, at any worker."""
@@ -100,9 +122,9 @@ class Trial:
     async def ask(self, it: Asked, worker: Worker | None = None) -> bool:
         """Asks until there is an answer, of whichever worker. Now and then the answer isn't waited for. Says whether there
         was one: without one for long the service is wrong, and nobody waits so long again."""
-        begun, last = time.monotonic(), "nothing"
+        begun, last = self.clock(), "nothing"
         while not it.answered:
-            if time.monotonic() > begun + self.patience:
+            if self.clock() > begun + self.patience:
                 self.patience = LATER_SECONDS
                 self.wrong.append(f"{it.document} {it.request}: not answered, at last by {last}")
                 return False
