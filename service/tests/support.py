@@ -20,7 +20,7 @@ from vaultsatin_service.store import Store
 
 HERE = pathlib.Path(__file__).resolve().parent
 POSTGRES = max(pathlib.Path("/usr/lib/postgresql").glob("*/bin"), default=None)
-if not (importlib.util.find_spec("psycopg") and importlib.util.find_spec("psycopg_pool")):
+if not importlib.util.find_spec("psycopg"):
     POSTGRES = None
 HELLO = b'{"update":[{"append":"Hello"}]}\n'
 RULE = b'{"rule":{"do":[{"set":{"text":"\xc2\xa9"}}],"if":[{"text":"(c)"}],"on":"text"}}\n'
@@ -85,8 +85,8 @@ class Database:
         if os.getuid() == 0:
             shutil.chown(folder, "postgres")
         self._run("initdb", "-D", self.data, "-A", "trust", "-U", "service", "--no-sync")
-        self._run("pg_ctl", "-D", self.data, "-l", folder / "log", "-w",
-                  "-o", f"-k {folder} -p 5433 -h '' -c fsync={'on' if is_safe else 'off'}", "start")
+        self._options = f"-k {folder} -p 5433 -h '' -c fsync={'on' if is_safe else 'off'}"
+        self.start()
 
     @property
     def pid(self) -> int:
@@ -103,6 +103,10 @@ class Database:
         children = pathlib.Path(f"/proc/{self.pid}/task/{self.pid}/children").read_text(encoding="ascii")
         for process in (self.pid, *map(int, children.split())):
             os.kill(process, what)
+
+    def start(self) -> None:
+        """Begins it, also anew."""
+        self._run("pg_ctl", "-D", self.data, "-l", self.folder / "log", "-w", "-o", self._options, "start")
 
     def stop(self) -> None:
         """Ends it."""

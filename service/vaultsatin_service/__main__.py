@@ -7,7 +7,7 @@ import sys
 from aiohttp import web
 
 from .application import Worker, program_of
-from .errors import Away
+from .errors import Away, Unfit
 from .limits import TAKE_SECONDS
 from .logging_lines import log_to_stderr
 from .words import words_of
@@ -20,7 +20,10 @@ LOG = logging.getLogger("service")
 def listening(host: str, port: int) -> socket.socket:
     """The socket, and a log line that says where it is."""
     family = socket.AF_INET6 if ":" in host else socket.AF_INET
-    opened = socket.create_server((host, port), family=family, backlog=128)
+    try:
+        opened = socket.create_server((host, port), family=family, backlog=128)
+    except OSError as error:
+        sys.exit(f"nobody can listen there: {error}")
     opened.setsockopt(socket.IPPROTO_TCP, USER_TIMEOUT, 1000 * TAKE_SECONDS)  # of its connections
     place = f"[{host}]" if ":" in host else host
     LOG.info("listening", extra={"address": f"http://{place}:{opened.getsockname()[1]}"})
@@ -38,10 +41,17 @@ def main() -> None:
     except OSError as error:
         sys.exit(f"there is no program: {error}. The option --core runs the module by node.")
     try:
-        web.run_app(Worker(words, program).application(), sock=listening(words.host, words.port),
+        worker = Worker(words, program)
+        web.run_app(worker.application(), sock=listening(words.host, words.port),
                     shutdown_timeout=SHUTDOWN_SECONDS, access_log=None, print=lambda *_: None)
+        if worker.unfit:
+            raise worker.unfit
     except Away as error:
         sys.exit(f"the log can't be opened: {error}. Another worker may have the file {words.file}.")
+    except ModuleNotFoundError as error:
+        sys.exit(f"--database takes psycopg: {error}")
+    except Unfit as error:
+        sys.exit(f"the log can't be used: {error}")
 
 
 if __name__ == "__main__":

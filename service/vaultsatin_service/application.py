@@ -2,13 +2,14 @@
 import asyncio
 import logging
 import pathlib
+import signal
 from collections.abc import AsyncIterator, Awaitable, Callable
 
 from aiohttp import web
 
 from .document import Setting
 from .documents import Documents
-from .errors import Away, Refusal
+from .errors import Away, Refusal, Unfit
 from .handlers import Handlers
 from .limits import MOST_BODY
 from .log import Log
@@ -53,6 +54,7 @@ class Worker:
         self.log.told = self.readers.told
         setting = Setting(program, self.log, self.metrics, words.epoch, words.pass_over)
         self.documents = Documents(setting, words.processes, words.idle)
+        self.unfit: Unfit | None = None  # why the worker ends by itself
 
     def application(self) -> web.Application:
         """The application, with its addresses."""
@@ -93,11 +95,11 @@ class Worker:
             self.metrics.count("requests_total", kind=kind, status=str(status))
 
     async def _health(self, _: web.Request) -> web.Response:
-        """Whether the database answers."""
+        """Whether the database answers, and has the table."""
         try:
             async with asyncio.timeout(HEALTH_SECONDS):
                 await self.store.ask("select 1")
-        except (TimeoutError, Away):
+        except (TimeoutError, Away, Unfit):
             return web.Response(status=503, text="the database doesn't answer\n")
         return web.Response(text=f"{self.documents.count} documents\n")
 
@@ -106,7 +108,7 @@ class Worker:
         lasting = [self.readers.tell(), self.readers.listen(), self.readers.look(), self.documents.look_after()]
         if self.words.keep is not None:
             lasting.append(self._forget(self.words.keep))
-        tasks = [asyncio.create_task(_lasting(it)) for it in lasting]
+        tasks = [asyncio.create_task(self._lasting(it)) for it in lasting]
         LOG.info("begun", extra={"version": self.documents.setting.program.version})
         yield
         await self.documents.close()
@@ -120,6 +122,17 @@ class Worker:
         """Lets readers go. Requests under way are answered."""
         self.readers.end()
 
+    async def _lasting(self, task: Awaitable[None]) -> None:
+        """A task that no fault may end unseen. A log that can't be used, found only now, ends the worker."""
+        try:
+            await task
+        except Unfit as error:
+            self.unfit = error
+            signal.raise_signal(signal.SIGTERM)
+        except Exception:
+            LOG.critical("a task has ended", exc_info=True)
+            raise
+
     async def _forget(self, days: float) -> None:
         """Deletes old rows, now and then."""
         while True:
@@ -128,15 +141,6 @@ class Worker:
             except Away as error:
                 LOG.warning("old rows not deleted", extra={"why": str(error)})
             await asyncio.sleep(FORGET_SECONDS)
-
-
-async def _lasting(task: Awaitable[None]) -> None:
-    """A task that no fault may end unseen."""
-    try:
-        await task
-    except Exception:
-        LOG.critical("a task has ended", exc_info=True)
-        raise
 
 
 def add_page(application: web.Application, folder: pathlib.Path) -> None:

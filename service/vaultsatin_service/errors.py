@@ -49,5 +49,9 @@ class Away(WorthAnotherTry):
     """The database can't be reached, or takes no writes."""
 
 
+class Unfit(Exception):
+    """The log lets nobody in by these words, or is of another version. Whoever begins the worker has to change that."""
+
+
 class Ended(WorthAnotherTry):
     """The process has ended, for no reason that would come again."""

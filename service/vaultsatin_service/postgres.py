@@ -6,23 +6,15 @@ from collections.abc import Callable, Sequence
 from typing import Any
 
 import psycopg
-from psycopg.abc import RV, PQGen
-from psycopg.rows import TupleRow
-from psycopg.waiting import wait_async
-from psycopg_pool import AsyncConnectionPool
 
 from .bounds import in_time
-from .errors import Away, Behind
+from .connections import TRY_SECONDS, Connections, Link
+from .errors import Away, Behind, Unfit
 from .limits import LISTEN_SECONDS
-from .statements import SCHEMA
+from .statements import FIT, SCHEMA
 from .store import Hear, Row, Value
 
-CONNECTION: dict[str, Any] = {
-    "autocommit": True, "connect_timeout": 3, "keepalives_idle": 5, "keepalives_interval": 2, "keepalives_count": 3,
-    "tcp_user_timeout": 10000}
 OPEN_SECONDS = 10.0  # for the database to answer, before the worker begins without it
-POOL_SECONDS = 5  # until a connection is free
-TRY_SECONDS = 2  # in which a lost connection is tried again by itself; after that each request tries
 AWAY = (psycopg.OperationalError, psycopg.errors.ReadOnlySqlTransaction)
 TELL = "select pg_notify('entry', name) from unnest(:names::text[]) as name"
 LASTS = """select name, last.id from unnest(:names::text[]) as name
@@ -34,60 +26,55 @@ def written(statement: str) -> bytes:
     return re.sub("(?<!:):([a-z]+)", r"%(\1)s", statement).encode()
 
 
-class Connection(psycopg.AsyncConnection[TupleRow]):
-    """A connection that is closed where nobody waits for its statement any more. Other versions of psycopg ask the
-    server to cancel it, and wait for that: if the server has stopped, all of the worker waits."""
-
-    async def wait(self, gen: PQGen[RV], *interval: float) -> RV:
-        """Lets a step of the protocol be done."""
-        try:
-            return await wait_async(gen, self.pgconn.socket, *interval)
-        except asyncio.CancelledError:
-            self.pgconn.finish()
-            raise
-
-
 class Postgres:
     """A database, as libpq finds it: an address may name several machines, of which it takes the one that may write."""
 
     def __init__(self, address: str) -> None:
-        self.address = address
-        self._pool = AsyncConnectionPool(address, connection_class=Connection, kwargs=CONNECTION, min_size=2,
-                                         max_size=16, timeout=POOL_SECONDS, reconnect_timeout=TRY_SECONDS, open=False)
+        self._connections = Connections(address)
+        self._is_fit = False  # whether the table was found, as this version takes it
         self._written: dict[str, bytes] = {}
 
     async def open(self) -> None:
-        """Makes the table if it isn't there, where this user may."""
-        await self._pool.open()
-        with contextlib.suppress(Away, Behind):  # it isn't there yet: the first request makes the table
+        """Looks at the table. Where the database is away, whoever asks first does that."""
+        with contextlib.suppress(Away):
             async with in_time(OPEN_SECONDS):
-                await self.ask("select 1 from entry limit 1")
-
-    async def _make(self) -> None:
-        with contextlib.suppress(psycopg.Error):  # as where another worker makes it at the same time
-            async with self._pool.connection() as connection:
-                await connection.execute(SCHEMA.encode())
+                await self._ask("select 1", {}, 0)
 
     async def close(self) -> None:
         """Ends the connections."""
-        await self._pool.close()
+        await self._connections.close()
 
     async def ask(self, statement: str, **values: Value) -> list[Row]:
         """Does a statement, and waits as long as a commit does, where that waits for a standby."""
         return await self._ask(statement, values)
 
-    async def _ask(self, statement: str, values: dict[str, Any]) -> list[Row]:
+    async def _ask(self, statement: str, values: dict[str, Any], try_seconds: float = TRY_SECONDS) -> list[Row]:
         query = self._written.setdefault(statement, written(statement))
         try:
-            async with self._pool.connection() as connection:
+            async with self._connections.one(try_seconds) as connection:
+                if not self._is_fit:
+                    await self._look_at_table(connection)
                 return await (await connection.execute(query, values, binary=True)).fetchall()
         except AWAY as error:
             raise Away(str(error)) from error
         except psycopg.errors.UndefinedTable as error:
-            await self._make()
+            self._is_fit = False
             raise Away(str(error)) from error
         except psycopg.errors.UniqueViolation as error:
             raise Behind(str(error)) from error
+
+    async def _look_at_table(self, connection: Link) -> None:
+        """Makes the table if it isn't there, where this user may."""
+        try:
+            await connection.execute(FIT.encode())
+        except psycopg.errors.UndefinedTable:
+            with contextlib.suppress(psycopg.Error):  # as where another worker makes it at the same time
+                await connection.execute(SCHEMA.encode())
+            await connection.execute(FIT.encode())
+        except (psycopg.errors.UndefinedColumn, psycopg.errors.InsufficientPrivilege) as error:
+            why = str(error).partition("\n")[0]
+            raise Unfit(f"the table isn't one of this version, for this user: {why}") from error
+        self._is_fit = True
 
     async def tell(self, documents: Sequence[str]) -> None:
         """Tells them all at once: commits that notify wait for each other."""
@@ -102,7 +89,7 @@ class Postgres:
         without LISTEN."""
         try:
             with contextlib.suppress(TimeoutError):
-                async with asyncio.timeout(LISTEN_SECONDS), await Connection.connect(self.address, **CONNECTION) as one:
+                async with asyncio.timeout(LISTEN_SECONDS), await self._connections.connect() as one:
                     await one.execute("listen entry")
                     begin()
                     async for note in one.notifies():

@@ -1,17 +1,19 @@
 """The log in a file: for one worker, with nothing to set up."""
 import asyncio
 import pathlib
+import re
 import sqlite3
 from collections.abc import Callable, Sequence
 from concurrent.futures import ThreadPoolExecutor
 from typing import TypeVar
 
-from .errors import Away, Behind
-from .statements import LAST, SCHEMA
+from .errors import Away, Behind, Unfit
+from .statements import FIT, LAST, SCHEMA
 from .store import Hear, Row, Value
 
 Result = TypeVar("Result")
 BUSY_SECONDS = 2.0  # until it is said that another process has the file
+UNFIT = re.compile("no such column|not a database")
 
 
 class Sqlite:
@@ -25,7 +27,12 @@ class Sqlite:
 
     async def open(self) -> None:
         """Makes the file if it isn't there."""
-        self._connection = await self._run(self._connect)
+        try:
+            self._connection = await self._run(self._connect)
+        except (sqlite3.DatabaseError, Away) as error:
+            if UNFIT.search(str(error)):
+                raise Unfit(f"the file {self.path} isn't one of this version: {error}") from error
+            raise
 
     def _connect(self) -> sqlite3.Connection:
         self.path.parent.mkdir(parents=True, exist_ok=True)
@@ -34,6 +41,7 @@ class Sqlite:
         connection.execute("pragma journal_mode = wal")
         connection.execute("pragma synchronous = full")  # what is answered outlives a loss of power
         connection.executescript(SCHEMA)
+        connection.execute(FIT)
         connection.executescript("begin exclusive; commit")  # takes the lock, until the end
         return connection
 

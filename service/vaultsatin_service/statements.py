@@ -29,6 +29,9 @@ APPEND = """insert into entry (document, number, id, epoch, request, author, lin
 
 IS_THERE = "select 1 from entry where document = :document and number = :number and id = :id"
 
+# What a table of this version has.
+FIT = "select document, number, id, epoch, request, author, lines, replies, version, state, written from entry limit 0"
+
 LAST = "select id from entry where document = :document order by number desc limit 1"
 
 # The state after a row, in the place of those after earlier ones.
