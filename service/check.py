@@ -106,7 +106,10 @@ async def check(words: argparse.Namespace, folder: pathlib.Path) -> list[str]:
     epochs = {(row.document, row.epoch) for row in rows}
     trial.counts.update({"requests": len(trial.asked), "rows": len(rows), "epochs": len(epochs)})
     print(", ".join(f"{count} {what}" for what, count in sorted(trial.counts.items())), flush=True)
-    return trial.wrong + (list(faults(rows, trial, answers)) if rows else ["there are no rows"])
+    begun = time.monotonic()
+    wrong = trial.wrong + (list(faults(rows, trial, answers)) if rows else ["there are no rows"])
+    print(f"what is there was looked through in {time.monotonic() - begun:.0f} seconds", flush=True)
+    return wrong
 
 
 def kind_of(wrong: str) -> str:

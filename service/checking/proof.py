@@ -1,15 +1,19 @@
 """What is wrong in the table, by what clients and readers got, and by what the program answers."""
+import os
 import subprocess
+import time
 from collections import defaultdict
 from collections.abc import Iterator
+from concurrent.futures import ThreadPoolExecutor
 from itertools import groupby
 from operator import attrgetter
 from typing import NamedTuple
 
 from .trial import RULES, Asked, Trial, number_of
 
-CLOSING = b'{"flush":true}\n{"show":"state"}\n'
+CLOSING, HEAD = b'{"flush":true}\n{"show":"state"}\n', b'{"state":'
 ANSWER_SECONDS = 120.0  # in which an epoch is answered again
+MOST_SECONDS = 900.0  # in which the last one of them begins to be
 
 
 class Row(NamedTuple):
@@ -38,7 +42,7 @@ def faults(rows: list[Row], trial: Trial, words: list[str]) -> Iterator[str]:
         last = [(row.place, row.replies) for row in entries if row.epoch == entries[-1].epoch]
         if any(read != last for name, read in trial.read if name == document):
             yield f"{document}: a reader has something else than the last epoch"
-        yield from _epochs(document, entries, words)
+    yield from _epochs(rows, words)
     yield from _requests(rows, trial)
     for document, asked in groupby(sorted(trial.asked, key=attrgetter("document", "number")), attrgetter("document")):
         latest = 0.0
@@ -48,19 +52,40 @@ def faults(rows: list[Row], trial: Trial, words: list[str]) -> Iterator[str]:
             latest = max(latest, it.sent)
 
 
-def _epochs(document: str, entries: list[Row], words: list[str]) -> Iterator[str]:
-    """Each epoch is answered again with the same bytes, and begins with what was there."""
-    state = None
-    for epoch, some in groupby(entries, attrgetter("epoch")):
-        run = list(some)
-        lines, replies = b"".join(row.lines for row in run), b"".join(row.replies for row in run)
-        answer = subprocess.run(words, input=lines + CLOSING, stdout=subprocess.PIPE, check=True,
-                                timeout=ANSWER_SECONDS).stdout
-        if not answer.startswith(replies) or answer.count(b"\n") != replies.count(b"\n") + 2:
-            yield f"{document}: epoch {epoch} is answered otherwise by a new process"
-        if state is not None and run[0].lines != b'{"load":%b}\n' % state + RULES:
-            yield f"{document}: epoch {epoch} doesn't begin with what was there"
-        state = answer.split(b"\n")[-2][len(b'{"state":'):-1]
+def _epochs(rows: list[Row], words: list[str]) -> Iterator[str]:
+    """Each epoch is answered again with the same bytes, and begins with what was there. Some are answered at once: the
+    module by node takes half a second to begin, and there may be hundreds of epochs."""
+    runs = [list(group) for _, group in groupby(rows, attrgetter("document", "epoch"))]
+    ends = time.monotonic() + MOST_SECONDS
+    before, state = "", None
+    with ThreadPoolExecutor(os.cpu_count()) as threads:
+        answers = threads.map(lambda run: _answer(run, words) if time.monotonic() < ends else None, runs)
+        for run, answer in zip(runs, answers):
+            name, replies = f"{run[0].document}: epoch {run[0].epoch}", b"".join(row.replies for row in run)
+            if answer is None:
+                yield f"{name} isn't answered again: all of them take longer than {MOST_SECONDS:.0f} seconds"
+            elif not answer.startswith(replies) or answer.count(b"\n") != replies.count(b"\n") + 2:
+                yield f"{name} is answered otherwise by a new process"
+            if run[0].document == before and state and run[0].lines != b'{"load":%b}\n' % state + RULES:
+                yield f"{name} doesn't begin with what was there"
+            before, state = run[0].document, _state_of(answer)
+
+
+def _answer(run: list[Row], words: list[str]) -> bytes:
+    """What a new process answers to an epoch, as far as it comes."""
+    lines = b"".join(row.lines for row in run) + CLOSING
+    with subprocess.Popen(words, stdin=subprocess.PIPE, stdout=subprocess.PIPE) as process:
+        try:
+            return process.communicate(lines, ANSWER_SECONDS)[0]
+        except subprocess.TimeoutExpired:
+            process.kill()
+            return b""
+
+
+def _state_of(answer: bytes | None) -> bytes | None:
+    """The document at the end of an epoch."""
+    last = (answer or b"").removesuffix(b"\n").rpartition(b"\n")[2]
+    return last.removeprefix(HEAD).removesuffix(b"}") if last.startswith(HEAD) else None
 
 
 def _requests(rows: list[Row], trial: Trial) -> Iterator[str]:
@@ -78,7 +103,7 @@ def _requests(rows: list[Row], trial: Trial) -> Iterator[str]:
             yield f"{name}: done, but its client had seen {it.seen}, which isn't there"
         elif it.is_exact and number_of(it.seen) != it.number - 1:
             yield f"{name}: done at {it.number}, but its client had seen {it.seen}"
-    unknown = [(document, request) for document, request in stored if request and request != "lost"]
+    unknown = [it for it in stored if it[1] and it[1] != "lost" and it not in trial.given_up]
     yield from (f"{document} {request}: nobody has asked that" for document, request in unknown)
     yield from _lost(rows)
 

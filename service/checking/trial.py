@@ -95,6 +95,7 @@ class Trial:
     read: list[tuple[str, list[tuple[str, bytes]]]] = field(default_factory=list)
     readers: list[asyncio.Task[None]] = field(default_factory=list)
     patience: float = ANSWER_SECONDS
+    given_up: set[tuple[str, str | None]] = field(default_factory=set)  # requests that may be done, but weren't answered
     wrong: list[str] = field(default_factory=list)
     counts: Counter[str] = field(default_factory=Counter)
     _passed: float = 0.0  # seconds without a log
@@ -126,6 +127,7 @@ class Trial:
         while not it.answered:
             if self.clock() > begun + self.patience:
                 self.patience = LATER_SECONDS
+                self.given_up.add((it.document, it.request))
                 self.wrong.append(f"{it.document} {it.request}: not answered, at last by {last}")
                 return False
             limit = random.uniform(0, 0.1) if random.random() < 0.01 else 30
