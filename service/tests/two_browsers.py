@@ -43,6 +43,19 @@ document.querySelector(`[data-command=${kind}]`).click();
 """
 
 
+OPEN = """
+const [name, text] = arguments, { click } = HTMLInputElement.prototype;
+HTMLInputElement.prototype.click = function () {
+  HTMLInputElement.prototype.click = click;
+  const chosen = new DataTransfer();
+  chosen.items.add(new File([text], name));
+  this.files = chosen.files;
+  this.dispatchEvent(new Event('change'));
+};
+document.querySelector('[data-command=open]').click();
+"""
+
+
 class SharedPage(Page):  # type: ignore[misc]
     """A page of the service. Statuses that the protocol knows are no errors, though the console tells of them."""
 
@@ -57,7 +70,6 @@ class SharedPage(Page):  # type: ignore[misc]
         while self.driver.execute_script("return page.isBusy") and time.monotonic() < ends:
             time.sleep(0.02)
 
-
     def blocks(self) -> object:
         """Each block with its tag."""
         return self.driver.execute_script(TAGS)
@@ -65,6 +77,10 @@ class SharedPage(Page):  # type: ignore[misc]
     def saved(self, kind: str) -> str:
         """What is in the file that is saved."""
         return str(self.driver.execute_async_script(SAVE, kind))
+
+    def open_file(self, name: str, text: str) -> None:
+        """Opens a file of that name."""
+        self.driver.execute_script(OPEN, name, text)
 
 
 def begun(folder: str) -> tuple["subprocess.Popen[bytes]", str]:
@@ -186,6 +202,29 @@ def kept(ann: SharedPage, results: Results) -> None:
         results.add(f"saved as {kind}", [] if part in text else [text])
 
 
+def opened(ann: SharedPage, ben: SharedPage, results: Results) -> None:
+    """A file that one opens takes the place of what both had, and undo brings that back."""
+    before, document = ann.blocks(), ann.saved("json")
+    pages = (("one", ann), ("the other", ben))
+    for file, text, found in (("list.html", "<h1>List</h1><p>one <b>two</b></p>", ["h1: List", "p: one two"]),
+                              ("plan.json", document, before)):
+        ann.open_file(file, text)
+        for name, page in pages:
+            results.add(f"{file} is opened: {name}", seen(page.blocks, found))
+        results.add("that is said", seen(lambda: any("is open" in it for it in ann.notices()), True))
+    ben.caret("Planning")
+    ben.type("!")
+    results.add("what is typed then", seen(lambda: "h2: Planning!" in ann.blocks(), True))  # type: ignore[operator]
+    for _ in range(2):
+        ann.press("control+z")
+    results.add("undo goes back behind it", seen(ben.blocks, ["h1: List", "p: one two"]))
+    ann.press("control+z")
+    results.add("and to what was there first", seen(ben.blocks, before))
+    ann.open_file("plan.json", "{")
+    results.add("what can't be read is told", seen(lambda: any("JSON" in it for it in ann.notices()), True))
+    results.add("and nothing is changed", seen(ben.blocks, before))
+
+
 def main() -> int:
     """The status."""
     results = Results()
@@ -202,6 +241,7 @@ def main() -> int:
             marked(pages[0], pages[1], results)
             pasted(pages[0], pages[1], results)
             kept(pages[0], results)
+            opened(pages[0], pages[1], results)
             for page in pages:
                 results.add("no error is in the console, and nothing was wrong", page.messages() + page.notices())
         finally:

@@ -14,7 +14,7 @@ document.title = `${name} - Vaultsatin`;
 const page = new SharedPage(part('page'), `/documents/${encodeURIComponent(name)}`);
 notices(page, part('notices'));
 await page.open();
-files(page, part('bar'), undefined, ['json', 'html', 'md']);
+files(page, part('bar'), undefined, ['open', 'json', 'html', 'md']);
 toolbar(page, part('bar'));
 tableToolbar(page, part('bar'));
 keepInSight(page);
