@@ -136,7 +136,7 @@ def main() -> None:
     signal.signal(signal.SIGTERM, lambda *_: sys.exit(143))  # so that what was begun is ended
     with tempfile.TemporaryDirectory(prefix="service-") as name:
         folder = pathlib.Path(name)
-        copied(folder, words.fault)
+        copied(folder, words.fault, not words.core)
         folder.chmod(0o755)
         if os.getuid() == 0:
             shutil.chown(folder, "postgres")

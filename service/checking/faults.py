@@ -29,20 +29,24 @@ IN_FILE = ("no-request-key", "any-epoch", "not-exact", "seen-by-number", "rules-
 LIMITS = {  # shorter ones, so that pauses pass them, and what is asked again isn't remembered
     "RECENT_REQUESTS = 256": "RECENT_REQUESTS = 4",
     "RECENT_ROWS = 256": "RECENT_ROWS = 8",
-    "PIECE_SECONDS = 10.0": "PIECE_SECONDS = 4.0",
-    "REQUEST_SECONDS = 30.0": "REQUEST_SECONDS = 12.0",
     "STATEMENT_SECONDS = 30.0": "STATEMENT_SECONDS = 12.0",
     "QUIET_SECONDS = 5.0": "QUIET_SECONDS = 600.0",  # a state that can't be kept ends the process, which hides a fault
 }
 
 
-def copied(folder: pathlib.Path, fault: str | None) -> None:
+QUICK = {  # those of a program that begins at once: a node takes longer where many others begin beside it
+    "PIECE_SECONDS = 10.0": "PIECE_SECONDS = 4.0",
+    "REQUEST_SECONDS = 30.0": "REQUEST_SECONDS = 12.0",
+}
+
+
+def copied(folder: pathlib.Path, fault: str | None, is_quick: bool = True) -> None:
     """Copies the service to a folder, with other limits, and the fault."""
     package = folder / "vaultsatin_service"
     shutil.copytree(SERVICE / "vaultsatin_service", package, ignore=shutil.ignore_patterns("__pycache__"))
     program = package / "program.py"  # the copy still finds the program
     _change(program, "pathlib.Path(__file__).resolve().parents[2]", f"pathlib.Path({str(SERVICE.parent)!r})")
-    for before, after in LIMITS.items():
+    for before, after in {**LIMITS, **(QUICK if is_quick else {})}.items():
         _change(package / "limits.py", before, after)
     name, before, after = FAULTS[fault] if fault else ("", "", "")
     if name:
