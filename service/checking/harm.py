@@ -115,21 +115,21 @@ class Harm:
         """The worst that can be: the second is away, the first restarts, shows what the second hasn't, and is lost. Then
         the second takes over. One worker has done, by reading it, what is lost. Another one made it, and dies. So the
         first has to notice that the row is gone, or has another id, before it makes the next one."""
-        onlooker, maker, *_ = self._trial.workers
+        onlooker, maker, other = self._trial.workers
         before = await self._begin_witnesses()
         for name in before:
             before[name] = await self._pass_epoch(name, before[name], onlooker, maker)
         with self._trial.without_log():
             await asyncio.to_thread(cluster.lose_second)
-            for is_done in await asyncio.gather(*(self._do_lost(it, before[it], maker) for it in before)):
-                self._trial.counts["answers without a standby"] += is_done
-            await self._end(maker, signal.SIGKILL)
+            await self._do_unsafe(before, maker)
             await asyncio.to_thread(cluster.restart_first)
             lost = await self._lost_entries(before, onlooker)
+            await self._do_unsafe(before, other)
             await asyncio.to_thread(cluster.lose_first)
         await self._is_well(onlooker)
         await self._go_on(before, lost, onlooker)
         maker.start()
+        other.start()
 
     async def restore(self, file: File) -> None:
         """The machine is lost, and a backup put back: rows are gone that clients and readers have."""
@@ -171,6 +171,14 @@ class Harm:
                 await self._trial.ask(Asked(name, "behind-lost", CARET, it), worker)
                 self._trial.follow(name, it)
                 self._trial.counts["rows that were seen and lost"] += 1
+
+    async def _do_unsafe(self, before: dict[str, str], worker: Worker) -> None:
+        """Asks for what can't be kept safely, as there is no standby: that is to be answered by nobody. Then the worker is
+        ended, so that it doesn't do it later either."""
+        for is_done in await asyncio.gather(*(self._do_lost(it, before[it], worker) for it in before)):
+            if is_done:
+                self._trial.wrong.append("a request is answered, though its row will be lost")
+        await self._end(worker, signal.SIGKILL)
 
     async def _do_lost(self, name: str, seen: str, worker: Worker) -> bool:
         """A request whose row will be lost: whether it is answered."""
