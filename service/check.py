@@ -27,7 +27,7 @@ from checking.faults import ALONE, FAULTS, IN_FILE, SERVICE, copied
 from checking.file import File
 from checking.harm import Harm
 from checking.proof import Row, faults
-from checking.trial import RULES, Asked, Trial, Worker
+from checking.trial import ANSWER_SECONDS, RULES, Asked, Trial, Worker
 
 COLUMNS = "document, number, id, epoch, request, lines, replies"
 PROGRAM, STAND_IN = SERVICE.parent / "crates/lexical/out/lexical", SERVICE / "checking/stand_in.py"
@@ -45,7 +45,7 @@ async def phase(trial: Trial, name: str, clients: int, act: Awaitable[None]) -> 
     try:
         await act
         seconds, trial.is_over = time.monotonic() - begun, True
-        for task in (await asyncio.wait(tasks, timeout=40))[1]:
+        for task in (await asyncio.wait(tasks, timeout=ANSWER_SECONDS + 40))[1]:
             trial.wrong.append(f"a client isn't answered: {task.get_name()}")
     finally:
         for task in tasks:
