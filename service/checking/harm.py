@@ -17,6 +17,7 @@ from .trial import CARET, HEADERS, RULES, Asked, Trial, Worker
 WITNESSES = [f"witness-{number}" for number in range(3)]
 AWAY_SECONDS = 8.0  # in which a row is made that waits for the standby
 LOOK_SECONDS = 30.0  # in which it is seen, once its database has begun again
+EARLY = 0.1  # of the harm that could come to a worker before it serves: else a busy machine would have none that does
 END_SECONDS = 60.0  # in which a worker ends by SIGTERM, also while its database is away
 
 
@@ -75,7 +76,7 @@ class Harm:
 
     async def _one(self, worker: Worker) -> None:
         chance = random.random()
-        if worker in self._resting:
+        if worker in self._resting or not worker.has_begun and random.random() > EARLY:
             return
         if chance < 0.1:
             self._tasks.append(asyncio.create_task(self._rest(worker)))

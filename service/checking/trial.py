@@ -51,7 +51,17 @@ class Worker:
 
     def told(self) -> str:
         """The last of what it has told since it was begun."""
-        return self.log.read_bytes()[self._told:].decode(errors="replace")[-1500:].rstrip()
+        return self._telling().decode(errors="replace")[-1500:].rstrip()
+
+    def _telling(self) -> bytes:
+        with self.log.open("rb") as log:
+            log.seek(self._told)
+            return log.read()
+
+    @property
+    def has_begun(self) -> bool:
+        """Whether it has begun to serve since then."""
+        return b'"event": "begun"' in self._telling()
 
     def url(self, path: str) -> str:
         """An address of it."""

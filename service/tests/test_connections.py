@@ -66,10 +66,29 @@ class OverPostgres(unittest.IsolatedAsyncioTestCase):
             server.bind(str(silent / ".s.PGSQL.5433"))
             server.listen()
             store = Postgres(f"host={silent},{self.database.folder} port=5433 user=service dbname=postgres"
-                             " target_session_attrs=read-write connect_timeout=1")
+                             " target_session_attrs=read-write")
             async with asyncio.timeout(30):
                 self.assertEqual(await store.ask("select 1"), [(1,)])
             await store.close()
+
+    async def test_who_is_told_to_stop_stops_while_it_connects(self) -> None:
+        from vaultsatin_service.connections import Connections  # pylint: disable=import-outside-toplevel
+        loop = asyncio.get_running_loop()
+        with tempfile.TemporaryDirectory(prefix="service-") as folder, socket.socket(socket.AF_UNIX) as server:
+            server.bind(f"{folder}/.s.PGSQL.5433")
+            server.listen()
+            server.setblocking(False)
+            for turns in range(10):  # of the loop, from the server's answer on
+                connecting = asyncio.create_task(Connections(f"host={folder} port=5433 user=ann").connect())
+                client, _ = await loop.sock_accept(server)
+                with client:
+                    await loop.sock_recv(client, 1000)
+                    await loop.sock_sendall(client, b"E\0\0\0\x10SFATAL\0Mno\0\0")
+                    for _ in range(turns):
+                        await asyncio.sleep(0)
+                    is_told = connecting.cancel()
+                    await asyncio.wait([connecting])
+                self.assertEqual(connecting.cancelled(), is_told)
 
     async def test_address_names_machines_as_libpq_takes_them(self) -> None:
         from vaultsatin_service.connections import machines_of  # pylint: disable=import-outside-toplevel

@@ -1,6 +1,11 @@
 """A process of lexical, and what it may use."""
+import asyncio
+import gc
+import os
 import pathlib
+import signal
 import sys
+import time
 import unittest
 from unittest import mock
 
@@ -37,6 +42,20 @@ class Processes(unittest.IsolatedAsyncioTestCase):
             await process.answer(b"a\nb\n")
         with self.assertRaises(Ended):
             await process.answer(b"a\n")
+
+    async def test_end_before_a_line_is_no_error_of_the_worker(self) -> None:
+        told: list[dict[str, object]] = []
+        asyncio.get_running_loop().set_exception_handler(lambda _, context: told.append(context))
+        process = await Process.begin(Program([sys.executable, "-c", "input()"], "test"))
+        os.kill(process.pid, signal.SIGKILL)
+        time.sleep(0.2)  # in which the worker hears of nothing
+        with mock.patch.object(process, "_limit"), self.assertRaises(Ended):
+            await process.answer(b"a\n")
+        await process.gone()
+        await asyncio.sleep(0.1)
+        del process
+        gc.collect()
+        self.assertEqual(told, [])
 
     async def test_status_of_no_memory_is_final(self) -> None:
         process = await self.begun("input(); exit(5)")

@@ -23,6 +23,7 @@ from .words import Words
 LOG = logging.getLogger("service")
 DOCUMENT = "/documents/{name:[a-z0-9][a-z0-9-]{0,62}}"
 HEALTH_SECONDS = 2.0
+END_SECONDS = 5.0  # for what goes on beside requests
 FORGET_SECONDS = 3600.0
 FAULT = "something is wrong here; nothing is done twice if it is asked again\n"
 Handler = Callable[[web.Request], Awaitable[web.StreamResponse]]
@@ -114,7 +115,7 @@ class Worker:
         await self.documents.close()
         for task in tasks:
             task.cancel()
-        await asyncio.gather(*tasks, return_exceptions=True)
+        await asyncio.wait(tasks, timeout=END_SECONDS)
         await self.store.close()
         LOG.info("ended")
 

@@ -17,8 +17,9 @@ from psycopg.waiting import wait_async
 from .errors import Away, Unfit
 
 CONNECTION: dict[str, Any] = {
-    "autocommit": True, "connect_timeout": 3, "keepalives_idle": 5, "keepalives_interval": 2, "keepalives_count": 3,
+    "autocommit": True, "keepalives_idle": 5, "keepalives_interval": 2, "keepalives_count": 3,
     "tcp_user_timeout": 10000}
+CONNECT_SECONDS = 3.0  # for one machine
 MOST = 16  # connections, beside the one that listens
 TRY_SECONDS = 5.0  # in which whoever needs a connection tries to make one
 AGAIN_SECONDS = 0.2  # until it is tried again
@@ -69,14 +70,16 @@ class Connections:
                 self._keep(connection)
 
     async def connect(self) -> Link:
-        """A new connection, to the first machine that takes it. psycopg 3.1 has one time limit for all of them: if the
-        first one were silent, the others wouldn't be asked."""
+        """A new connection, to the first machine that takes one. The time limit of psycopg 3.1 is for all of them: if
+        the first was silent, the others wouldn't be asked. And it may lose that its task is cancelled meanwhile, as
+        `asyncio.wait_for` does before Python 3.12: the task wouldn't end."""
         first, failures = self._at, list[str]()
         for at in range(first, first + len(self._machines)):
             try:
-                connection = await Connection.connect("", **self._machines[at % len(self._machines)])
-            except psycopg.OperationalError as error:
-                failures.append(str(error).strip())
+                async with asyncio.timeout(CONNECT_SECONDS):
+                    connection = await Connection.connect("", **self._machines[at % len(self._machines)])
+            except (psycopg.OperationalError, TimeoutError) as error:
+                failures.append(str(error).strip() or f"no answer within {CONNECT_SECONDS} seconds")
             else:
                 self._at, self._is_known = at % len(self._machines), True
                 return connection
@@ -125,5 +128,6 @@ def machines_of(address: str) -> list[dict[str, Any]]:
     count = max(map(len, lists.values()), default=1)
     if any(len(some) not in (1, count) for some in lists.values()):
         raise Unfit("the address names more machines than ports, or the other way around")
-    return [{**CONNECTION, **words, **{name: some[at % len(some)] for name, some in lists.items()}}
+    return [{**CONNECTION, **words,
+             **{name: some[at % len(some)] for name, some in lists.items()}, "connect_timeout": 0}
             for at in range(count)]

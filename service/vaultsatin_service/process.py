@@ -1,5 +1,6 @@
 """A process of `lexical`: lines go in, replies come out, within limits of time, memory and length."""
 import asyncio
+import contextlib
 import resource
 import signal
 import time
@@ -19,6 +20,7 @@ class Process:
         assert process.stdin and process.stdout
         self._process, self._stdin, self._stdout = process, process.stdin, process.stdout
         self.taken = 0  # bytes of lines
+        self._closing = asyncio.create_task(self._closed())
 
     @classmethod
     async def begin(cls, program: Program) -> "Process":
@@ -42,6 +44,11 @@ class Process:
         """Ends the process, wherever it is."""
         if self._process.returncode is None:
             self._process.kill()
+
+    async def _closed(self) -> None:
+        """Hears that the process takes no more, which else is logged as an error: its replies tell of that."""
+        with contextlib.suppress(OSError):
+            await self._stdin.wait_closed()
 
     async def gone(self) -> None:
         """Waits until it has ended."""
