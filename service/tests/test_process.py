@@ -10,7 +10,7 @@ import unittest
 from unittest import mock
 
 from vaultsatin_service.errors import Ended, TooMuch
-from vaultsatin_service.process import Process
+from vaultsatin_service.process import Process, tell
 from vaultsatin_service.program import Program, module_by_node
 
 from .support import HELLO, needs_node
@@ -44,8 +44,8 @@ class Processes(unittest.IsolatedAsyncioTestCase):
             await process.answer(b"a\n")
 
     async def test_end_before_a_line_is_no_error_of_the_worker(self) -> None:
-        told: list[dict[str, object]] = []
-        asyncio.get_running_loop().set_exception_handler(lambda _, context: told.append(context))
+        loop = asyncio.get_running_loop()
+        loop.set_exception_handler(tell)
         process = await Process.begin(Program([sys.executable, "-c", "input()"], "test"))
         os.kill(process.pid, signal.SIGKILL)
         time.sleep(0.2)  # in which the worker hears of nothing
@@ -54,8 +54,10 @@ class Processes(unittest.IsolatedAsyncioTestCase):
         await process.gone()
         await asyncio.sleep(0.1)
         del process
-        gc.collect()
-        self.assertEqual(told, [])
+        with self.assertNoLogs("asyncio"):
+            gc.collect()
+        with self.assertLogs("asyncio"):
+            loop.call_exception_handler({"message": "another one", "exception": ValueError()})
 
     async def test_status_of_no_memory_is_final(self) -> None:
         process = await self.begun("input(); exit(5)")

@@ -14,6 +14,7 @@ from .handlers import Handlers
 from .limits import MOST_BODY
 from .log import Log
 from .metrics import Metrics
+from .process import tell
 from .program import Program, module_by_node, program_at
 from .readers import Readers
 from .sqlite import Sqlite
@@ -105,6 +106,7 @@ class Worker:
         return web.Response(text=f"{self.documents.count} documents\n")
 
     async def _live(self, _: web.Application) -> AsyncIterator[None]:
+        asyncio.get_running_loop().set_exception_handler(tell)
         await self.store.open()
         lasting = [self.readers.tell(), self.readers.listen(), self.readers.look(), self.documents.look_after()]
         if self.words.keep is not None:

@@ -1,9 +1,9 @@
 """A process of `lexical`: lines go in, replies come out, within limits of time, memory and length."""
 import asyncio
-import contextlib
 import resource
 import signal
 import time
+from typing import Any
 
 from .errors import Ended, TooMuch
 from .limits import MOST_REPLIES, MOST_SECONDS, PIECE_SECONDS
@@ -13,6 +13,13 @@ OUT_OF_MEMORY = 5  # the program's status
 PIECE = 1 << 18  # bytes that are read at once
 
 
+def tell(loop: asyncio.AbstractEventLoop, context: dict[str, Any]) -> None:
+    """What the loop does with an error that nobody waits for. That a process doesn't take its lines is none: whoever waits
+    for its replies hears that it has ended."""
+    if not isinstance(context.get("exception"), BrokenPipeError):
+        loop.default_exception_handler(context)
+
+
 class Process:
     """One run. Whoever uses it sends one batch of lines after the other, and ends it at any error."""
 
@@ -20,7 +27,6 @@ class Process:
         assert process.stdin and process.stdout
         self._process, self._stdin, self._stdout = process, process.stdin, process.stdout
         self.taken = 0  # bytes of lines
-        self._closing = asyncio.create_task(self._closed())
 
     @classmethod
     async def begin(cls, program: Program) -> "Process":
@@ -44,11 +50,6 @@ class Process:
         """Ends the process, wherever it is."""
         if self._process.returncode is None:
             self._process.kill()
-
-    async def _closed(self) -> None:
-        """Hears that the process takes no more, which else is logged as an error: its replies tell of that."""
-        with contextlib.suppress(OSError):
-            await self._stdin.wait_closed()
 
     async def gone(self) -> None:
         """Waits until it has ended."""
