@@ -14,8 +14,8 @@ PIECE = 1 << 18  # bytes that are read at once
 
 
 def tell(loop: asyncio.AbstractEventLoop, context: dict[str, Any]) -> None:
-    """What the loop does with an error that nobody waits for. That a process doesn't take its lines is none: whoever waits
-    for its replies hears that it has ended."""
+    """What the loop does with an error that nobody waits for. That a process doesn't take its lines is none: whoever
+    waits for its replies hears that it has ended."""
     if not isinstance(context.get("exception"), BrokenPipeError):
         loop.default_exception_handler(context)
 
