@@ -3,7 +3,7 @@ import json
 import logging
 import unittest
 
-from vaultsatin_service.logging_lines import JsonLines
+from vaultsatin_service.logging_lines import JsonLines, is_told
 from vaultsatin_service.metrics import Metrics
 
 
@@ -37,3 +37,9 @@ class Counts(unittest.TestCase):
         told = json.loads(JsonLines().format(record))
         self.assertEqual((told["event"], told["level"], told["document"]), ("again", "info", "plan"))
         self.assertRegex(told["time"], r"^\d{4}-\d\d-\d\dT\d\d:\d\d:\d\d\.\d{3}Z$")
+
+    def test_requests_whose_client_has_gone_are_not_told(self) -> None:
+        for name, fault, expected in (("aiohttp.server", AssertionError(), False), ("aiohttp.server", ValueError(), True),
+                                      ("service", AssertionError(), True), ("service", None, True)):
+            info = fault and (type(fault), fault, None)
+            self.assertEqual(is_told(logging.makeLogRecord({"name": name, "exc_info": info})), expected)

@@ -20,8 +20,16 @@ class JsonLines(logging.Formatter):
         return json.dumps(told, default=str)
 
 
+def is_told(record: logging.LogRecord) -> bool:
+    """Whether anybody has to know. aiohttp 3.8 asserts that a request's connection is there, which may be lost before it
+    looks at the request: as where many gave up while the worker was stopped. Nothing was done then."""
+    fault = record.exc_info[1] if record.exc_info else None
+    return not (record.name == "aiohttp.server" and isinstance(fault, AssertionError))
+
+
 def log_to_stderr() -> None:
     """All records from `INFO` on go to standard error."""
     handler = logging.StreamHandler()
     handler.setFormatter(JsonLines())
+    handler.addFilter(is_told)
     logging.basicConfig(level=logging.INFO, handlers=[handler])
