@@ -21,8 +21,8 @@ class JsonLines(logging.Formatter):
 
 
 def is_told(record: logging.LogRecord) -> bool:
-    """Whether anybody has to know. aiohttp 3.8 asserts that a request's connection is there, which may be lost before it
-    looks at the request: as where many gave up while the worker was stopped. Nothing was done then."""
+    """Whether anybody has to know. aiohttp 3.8 asserts that a request's connection is there, which may be lost before
+    it looks at the request: as where many gave up while the worker was stopped. Nothing was done then."""
     fault = record.exc_info[1] if record.exc_info else None
     return not (record.name == "aiohttp.server" and isinstance(fault, AssertionError))
 
