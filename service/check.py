@@ -85,6 +85,7 @@ async def check(words: argparse.Namespace, folder: pathlib.Path) -> list[str]:
     answers = ["node", str(SERVICE.parent / "web/cli.mjs")] if words.core else [str(words.program.resolve())]
     async with aiohttp.ClientSession(read_bufsize=1 << 22, connector=aiohttp.TCPConnector(limit=0)) as session:
         trial = Trial(session, [f"d{it}" for it in range(words.documents)])
+        clock = asyncio.create_task(trial.tick())
         try:
             if isinstance(ground, Cluster):
                 ground.begin("" if words.fault == ALONE else "*")
@@ -94,6 +95,7 @@ async def check(words: argparse.Namespace, folder: pathlib.Path) -> list[str]:
         except TimeoutError:
             trial.wrong.append("the check doesn't come to its end")
         finally:
+            clock.cancel()
             for worker in trial.workers:
                 if (status := worker.process.poll()) not in (None, -signal.SIGKILL, -signal.SIGTERM):
                     trial.wrong.append(f"a worker ended by itself: {status}\n{worker.told()}")
@@ -103,6 +105,7 @@ async def check(words: argparse.Namespace, folder: pathlib.Path) -> list[str]:
                 trial.counts += Counter(f"times again: {it}" for it in re.findall('"again".*"kind": "([A-Za-z]+)', text))
                 trial.wrong += [f"a worker's fault: {it[:600]}" for it in text.splitlines() if WRONG.search(it)][:1]
             ground.stop()
+    trial.counts["seconds with a log and a worker"] += round(trial.clock)
     epochs = {(row.document, row.epoch) for row in rows}
     trial.counts.update({"requests": len(trial.asked), "rows": len(rows), "epochs": len(epochs)})
     print(", ".join(f"{count} {what}" for what, count in sorted(trial.counts.items())), flush=True)

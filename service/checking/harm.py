@@ -93,9 +93,11 @@ class Harm:
     async def _rest(self, worker: Worker) -> None:
         self._resting.add(worker)
         self._trial.counts["workers stopped for a while"] += 1
+        worker.is_stopped = True
         worker.process.send_signal(signal.SIGSTOP)
         await asyncio.sleep(random.uniform(1, 14))
         worker.process.send_signal(signal.SIGCONT)
+        worker.is_stopped = False
         self._resting.remove(worker)
 
     async def _end(self, worker: Worker, how: signal.Signals) -> None:

@@ -27,8 +27,9 @@ COMMANDS = [("make-list", "bullet"), ("make-list", "check"), ("indent", None), (
             ("delete-word", "back"), ("sign", None), ("format-text", "bold"), ("insert-text", "a\U0001f339"),
             ("select-all", None)]
 FAULTS = (aiohttp.ClientError, TimeoutError)
-ANSWER_SECONDS = 120.0  # with a log in which a request is answered at last, whatever else goes wrong
+ANSWER_SECONDS = 120.0  # of the clock in which a request is answered at last, whatever else goes wrong
 LATER_SECONDS = 5.0  # the same, once one wasn't
+TICK_SECONDS = 0.2
 SOME = 50  # requests of a client that it may ask again
 
 
@@ -45,6 +46,7 @@ class Worker:
     def start(self) -> None:
         """Begins it, also anew. Its folder is the current one, of which Python takes the service."""
         self._told = self.log.stat().st_size if self.log.exists() else 0
+        self._has_begun = self.is_stopped = False
         environment = {**os.environ, "PYTHONPATH": str(self._folder), "PYTHONDONTWRITEBYTECODE": "1"}
         with self.log.open("ab") as log:
             self.process = subprocess.Popen(self._words, stdout=log, stderr=log, env=environment, cwd=self._folder)
@@ -61,7 +63,13 @@ class Worker:
     @property
     def has_begun(self) -> bool:
         """Whether it has begun to serve since then."""
-        return b'"event": "begun"' in self._telling()
+        self._has_begun = self._has_begun or b'"event": "begun"' in self._telling()
+        return self._has_begun
+
+    @property
+    def is_up(self) -> bool:
+        """Whether it could answer."""
+        return not self.is_stopped and self.process.poll() is None and self.has_begun
 
     def url(self, path: str) -> str:
         """An address of it."""
@@ -108,23 +116,28 @@ class Trial:
     given_up: set[tuple[str, str | None]] = field(default_factory=set)  # requests that may be done, but weren't answered
     wrong: list[str] = field(default_factory=list)
     counts: Counter[str] = field(default_factory=Counter)
-    _passed: float = 0.0  # seconds without a log
-    _away_since: float | None = None
+    clock: float = 0.0  # seconds in which there were a log and a worker that could answer
+    _is_without_log: bool = False
+
+    async def tick(self) -> None:
+        """Goes on with the clock."""
+        last = time.monotonic()
+        while True:
+            await asyncio.sleep(TICK_SECONDS)
+            now = time.monotonic()
+            if not self._is_without_log and any(worker.is_up for worker in self.workers):
+                self.clock += now - last
+            last = now
 
     @contextlib.contextmanager
     def without_log(self) -> Iterator[None]:
         """There is no log meanwhile, so nobody is to blame for no answer."""
-        self._away_since = begun = time.monotonic()
+        self._is_without_log, begun = True, time.monotonic()
         try:
             yield
         finally:
-            self._away_since = None
-            self._passed += (passed := time.monotonic() - begun)
-            self.counts["seconds without a log"] += round(passed)
-
-    def clock(self) -> float:
-        """Seconds with a log, from some moment on."""
-        return (self._away_since or time.monotonic()) - self._passed
+            self._is_without_log = False
+            self.counts["seconds without a log"] += round(time.monotonic() - begun)
 
     def url(self, document: str, what: str, worker: Worker | None = None) -> str:
         """An address of a document, at any worker."""
@@ -133,9 +146,9 @@ class Trial:
     async def ask(self, it: Asked, worker: Worker | None = None) -> bool:
         """Asks until there is an answer, of whichever worker. Now and then the answer isn't waited for. Says whether there
         was one: without one for long the service is wrong, and nobody waits so long again."""
-        begun, last = self.clock(), "nothing"
+        begun, last = self.clock, "nothing"
         while not it.answered:
-            if self.clock() > begun + self.patience:
+            if self.clock > begun + self.patience:
                 self.patience = LATER_SECONDS
                 self.given_up.add((it.document, it.request))
                 self.wrong.append(f"{it.document} {it.request}: not answered, at last by {last}")

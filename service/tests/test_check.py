@@ -53,15 +53,20 @@ class Telling(unittest.IsolatedAsyncioTestCase):
             self.assertEqual(worker.process.wait(), 1)
             self.assertRegex(worker.told(), "^[^\n]*No module named vaultsatin_service$")
 
-    async def test_nobody_is_blamed_while_there_is_no_log(self) -> None:
+    async def test_nobody_is_blamed_where_nobody_can_answer(self) -> None:
         async with aiohttp.ClientSession() as session:
-            trial = Trial(session, ["a"])
-            with mock.patch("time.monotonic", side_effect=[10.0, 12.0, 70.0, 71.0]):
-                begun = trial.clock()
+            up, stopped = mock.Mock(is_up=True), mock.Mock(is_up=False)
+            trial = Trial(session, ["a"], [stopped])
+            with mock.patch("checking.trial.TICK_SECONDS", 0.01):
+                clock = asyncio.create_task(trial.tick())
+                await asyncio.sleep(0.1)
+                trial.workers.append(up)
                 with trial.without_log():
-                    self.assertEqual(trial.clock() - begun, 2.0)
-                self.assertEqual(trial.clock() - begun, 3.0)
-            self.assertEqual(trial.counts["seconds without a log"], 58)
+                    await asyncio.sleep(0.1)
+                self.assertEqual(trial.clock, 0.0)
+                await asyncio.sleep(0.1)
+                self.assertGreater(trial.clock, 0.0)
+                clock.cancel()
 
 
 class Proof(unittest.IsolatedAsyncioTestCase):
