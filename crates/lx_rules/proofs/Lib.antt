@@ -1,4 +1,3 @@
 pub mod Members
 pub mod Pieces
 pub mod Rows
-pub mod Unmet

@@ -1,12 +1,10 @@
 -- What a rule answers at a view.
-use Rattle.std.specs.Prelude.{ℕ, ◌≡◌, ◌==◌, ◌&&◌, Bool, true, false, nat_lt, is_none, if◌then◌else◌, List, [], ◌∷◌, Option, None, Some}
+use Rattle.std.specs.Prelude.{ℕ, ◌≡◌, ◌==◌, ◌&&◌, Bool, true, false, nat_lt, is_none, if◌then◌else◌, List, [], Option, None, Some}
 use Rattle.std.specs.List.{list_all}
 use Rattle.lx_node.specs.Kinds.{is_text}
-use Rattle.lx_node.specs.OfKind.{is_text_of}
 use Rattle.lx_node.specs.Same.{same_text}
 use Rattle.lx_node.specs.declared.kind.Kind.{Kind}
 use Rattle.lx_node.specs.declared.fields.TextFields.{TextFields}
-use Rattle.lx_node.specs.declared.fields.Fields.TheVariants as fields
 use Rattle.lx_node.specs.declared.node.View.{View}
 use Rattle.lx_text.specs.Texts.{length_told}
 use Rattle.lx_step.specs.declared.rule.Condition.{Condition}
@@ -14,7 +12,9 @@ use Rattle.lx_step.specs.declared.rule.Condition.TheVariants.{Text, Contains, Sh
 use Rattle.lx_step.specs.declared.rule.Rule.{Rule}
 use Rattle.lx_step.specs.declared.rule.TypeRow.{TypeRow}
 use Rattle.lx_step.specs.declared.rule.SelfEdit.{SelfEdit}
+use Rattle.lx_rules.specs.Glances.{glance_of, text_fields_in}
 use Rattle.lx_rules.specs.Pieces.{has_piece}
+use Rattle.lx_rules.specs.declared.glance.Glance.{Glance}
 use Rattle.lx_rules.specs.Types.{is_of_row, is_on, set_of_row}
 
 -- ---- conditions
@@ -32,18 +32,23 @@ abbrev pub is_beside : Option TypeRow → Option Kind → Bool
 is_beside None kind = is_none kind
 is_beside (Some row) kind = is_of_row row.0 kind
 
--- whether there are no kinds, which are those of children
-abbrev pub has_no_kinds : List Kind → Bool
-has_no_kinds [] = true
-has_no_kinds (kind ∷ kinds) = false
+-- whether there is a text, and it is what a condition asks of it
+abbrev pub is_met_by : Option TextFields → Condition → Bool
+is_met_by None condition = false
+is_met_by (Some own) condition = text_meets condition own
 
--- whether a condition holds at a view; one on a text holds of no other node, nor of a tab
+-- Whether a condition holds at a node that is seen so at a glance, and of its text. One on a text holds of no other
+-- node, nor of a tab.
+abbrev pub meets_at : Glance → Option TextFields → Condition → Bool
+meets_at g own (Parent row) = is_of_row row.0 g.parent
+meets_at g own (Previous row) = is_beside row g.prev
+meets_at g own (Next row) = is_beside row g.next
+meets_at g own Childless = g.is_childless
+meets_at g own condition = is_text g.kind && is_met_by own condition
+
+-- whether a condition holds at a view
 abbrev pub meets : View → Condition → Bool
-meets v (Parent row) = is_of_row row.0 v.parent
-meets v (Previous row) = is_beside row v.prev
-meets v (Next row) = is_beside row v.next
-meets v Childless = has_no_kinds v.children
-meets v condition = is_text v.kind && is_text_of (text_meets condition) v.fields
+meets v condition = meets_at (glance_of v) (text_fields_in v.fields) condition
 
 -- ---- answers
 
@@ -55,9 +60,9 @@ Answers = View → List SelfEdit
 abbrev pub asked : ℕ → Answers → Answers
 asked rows acts v = if is_on rows v.kind then acts v else []
 
--- a text at which there are no answers, whatever is around it
-abbrev pub NeverAnswers : Answers → TextFields → Type 0
-NeverAnswers acts own = (v : View) → v.fields ≡ fields.Text own → acts v ≡ []
+-- edits are what is answered at each view that shows this at a glance, and this text where it is one
+abbrev pub AreAnswers : Answers → Glance → Option TextFields → List SelfEdit → Type 0
+AreAnswers acts glance own edits = (v : View) → glance_of v ≡ glance → text_fields_in v.fields ≡ own → acts v ≡ edits
 
 -- the set of the one type that a rule of a script is of
 abbrev pub script_rows : Rule → ℕ

@@ -6,7 +6,8 @@ use Rattle.lx_node.specs.declared.kind.ListType.TheVariants.{Bullet}
 use Rattle.lx_step.specs.Types.{row_of}
 use Rattle.lx_step.specs.declared.rule.SelfEdit.{SelfEdit}
 use Rattle.lx_step.specs.declared.rule.SelfEdit.TheVariants.{Child, MergeNext}
-use Rattle.lx_rules.specs.Answers.{Answers, has_no_kinds}
+use Rattle.lx_rules.specs.Answers.{Answers}
+use Rattle.lx_rules.specs.Glances.{has_no_kinds}
 use Rattle.lx_rules.specs.Types.{set_of_row, is_kind}
 use Rattle.lx_rules.specs.declared.built_in.CellParagraph.{CellParagraph}
 use Rattle.lx_rules.specs.declared.built_in.ListMerge.{ListMerge}

@@ -63,6 +63,14 @@ has_work v (After new) = may_stand v new && not (is_kind v.next new.kind)
 has_work v (Child new) = is_suited new && (may_hold v.kind new.kind && not (list_any (same_kind new.kind) v.children))
 has_work v MergeNext = is_element v.kind && is_kind v.next v.kind
 
+-- whether what an edit has to do depends on the node's fields or its children, and not only on the kinds around it
+abbrev pub looks_within : SelfEdit → Bool
+looks_within (Set patch) = true
+looks_within (Replace new) = true
+looks_within Unwrap = true
+looks_within (Child new) = true
+looks_within edit = false
+
 -- whether an edit has nothing to do at a view
 unfoldable pub idle_at : View → SelfEdit → Bool
 idle_at v edit = not (has_work v edit)

@@ -1,6 +1,7 @@
 pub mod BuiltIn
 pub mod AnyRules
 pub mod Answers
+pub mod Glances
 pub mod Idle
 pub mod Pieces
 pub mod Places

@@ -1,8 +1,9 @@
 ghost use Rattle.lx_rules.specs.AnyRules.{any_rows, any_acts};
 
 use crate::built_in::{CellParagraph, ListMerge};
+use crate::glance::Glance;
 use crate::transform::{KindSet, Transform};
-use lx_node::{NoMemory, TextFields, View};
+use lx_node::{NoMemory, TextFields};
 use lx_step::{Rule, SelfEdit};
 use std::alloc::Global;
 
@@ -30,19 +31,16 @@ impl Transform for AnyRule {
         }
     }
 
-    fn may_act_on(&self, text: &TextFields) -> bool {
+    fn acts(
+        &self,
+        alloc: Global,
+        glance: &Glance,
+        own: Option<&TextFields>,
+    ) -> Result<Vec<SelfEdit>, NoMemory> {
         match self {
-            AnyRule::Merge(rule) => rule.may_act_on(text),
-            AnyRule::Fill(rule) => rule.may_act_on(text),
-            AnyRule::Script(rule) => rule.may_act_on(text),
-        }
-    }
-
-    fn acts(&self, alloc: Global, view: &View) -> Result<Vec<SelfEdit>, NoMemory> {
-        match self {
-            AnyRule::Merge(rule) => rule.acts(alloc, view),
-            AnyRule::Fill(rule) => rule.acts(alloc, view),
-            AnyRule::Script(rule) => rule.acts(alloc, view),
+            AnyRule::Merge(rule) => rule.acts(alloc, glance, own),
+            AnyRule::Fill(rule) => rule.acts(alloc, glance, own),
+            AnyRule::Script(rule) => rule.acts(alloc, glance, own),
         }
     }
 }

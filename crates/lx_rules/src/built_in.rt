@@ -2,9 +2,10 @@
 
 ghost use Rattle.lx_rules.specs.BuiltIn.{list_rows, list_merge, cell_rows, cell_paragraph};
 
+use crate::glance::Glance;
 use crate::transform::{KindSet, Transform};
 use crate::types::is_kind;
-use lx_node::{Fields, Kind, ListType, NoMemory, View};
+use lx_node::{Fields, Kind, ListType, NoMemory, TextFields};
 use lx_step::{NewNode, SelfEdit, TypeRow};
 use std::alloc::Global;
 
@@ -22,9 +23,14 @@ impl Transform for ListMerge {
     }
 
     #[tactic(auto, unfolding(crate::specs::BuiltIn::list_merge))]
-    fn acts(&self, alloc: Global, view: &View) -> Result<Vec<SelfEdit>, NoMemory> {
+    fn acts(
+        &self,
+        alloc: Global,
+        glance: &Glance,
+        _own: Option<&TextFields>,
+    ) -> Result<Vec<SelfEdit>, NoMemory> {
         let mut edits = Vec::new(alloc);
-        if is_kind(view.next, view.kind) {
+        if is_kind(glance.next, glance.kind) {
             edits.push(SelfEdit::MergeNext)?;
         }
         Ok(edits)
@@ -45,9 +51,14 @@ impl Transform for CellParagraph {
     }
 
     #[tactic(auto, unfolding(crate::specs::BuiltIn::cell_paragraph))]
-    fn acts(&self, alloc: Global, view: &View) -> Result<Vec<SelfEdit>, NoMemory> {
+    fn acts(
+        &self,
+        alloc: Global,
+        glance: &Glance,
+        _own: Option<&TextFields>,
+    ) -> Result<Vec<SelfEdit>, NoMemory> {
         let mut edits = Vec::new(alloc);
-        if view.children.items().is_empty() {
+        if glance.is_childless {
             let paragraph = NewNode {
                 kind: Kind::Paragraph,
                 fields: Fields::plain_element(alloc),

@@ -1,11 +1,12 @@
-ghost use Rattle.std.specs.Prelude.{◌≡◌, ◌↔◌, IsTrue, chars};
+ghost use Rattle.std.specs.Prelude.{◌≡◌, ◌↔◌, IsTrue, chars, option_copied};
 ghost use Rattle.std.specs.List.{list_all};
 ghost use Rattle.std.specs.Str.Iter.{HasSubslice};
 ghost use Rattle.lx_rules.specs.Answers as answers;
 ghost use Rattle.lx_rules.specs.Pieces.{has_piece};
 
+use crate::glance::Glance;
 use crate::types::is_of_row;
-use lx_node::{Fields, Kind, TextFields, View};
+use lx_node::{Kind, TextFields};
 use lx_step::{Condition, TypeRow};
 use lx_text::length_of;
 
@@ -40,38 +41,32 @@ fn is_beside(row: Option<TypeRow>, kind: Option<Kind>) -> bool
     }
 }
 
-/// Whether a condition holds at a view. Those on a text hold of no other node, nor of a tab.
-#[tactic(auto, unfolding(lx_node::specs::Kinds::is_text, lx_node::specs::OfKind::is_text_of))]
-fn is_met(condition: &Condition, view: &View) -> bool
-    ensures { result ≡ answers.meets view.now condition.now }
+/// Whether a condition holds at a node and of its text, where it has one. Those on a text hold of no other node, nor of
+/// a tab.
+#[tactic(auto, unfolding(lx_node::specs::Kinds::is_text))]
+fn is_met(condition: &Condition, glance: &Glance, own: Option<&TextFields>) -> bool
+    ensures { result ≡ answers.meets_at glance.now (option_copied own.entry) condition.now }
 {
     match condition {
-        Condition::Parent(row) => is_of_row(row.0, view.parent),
-        Condition::Previous(row) => is_beside(*row, view.prev),
-        Condition::Next(row) => is_beside(*row, view.next),
-        Condition::Childless => view.children.items().is_empty(),
+        Condition::Parent(row) => is_of_row(row.0, glance.parent),
+        Condition::Previous(row) => is_beside(*row, glance.prev),
+        Condition::Next(row) => is_beside(*row, glance.next),
+        Condition::Childless => glance.is_childless,
         Condition::Text(_)
         | Condition::Contains(_)
         | Condition::Shorter(_)
-        | Condition::Format(_) => match (view.kind, &view.fields) {
-            (Kind::Text, Fields::Text(own)) => is_met_by_text(condition, own),
+        | Condition::Format(_) => match (glance.kind, own) {
+            (Kind::Text, Some(own)) => is_met_by_text(condition, own),
             _ => false,
         },
     }
 }
 
-/// Whether all conditions hold at a view.
-pub(crate) fn are_met(conditions: &[Condition], view: &View) -> bool
-    ensures { result ≡ list_all (answers.meets view.now) conditions.now }
-{
-    conditions.iter().all(|condition| is_met(condition, view))
-}
-
-/// Whether a text is what all conditions on texts ask for.
-pub(crate) fn are_met_by_text(conditions: &[Condition], own: &TextFields) -> bool
-    ensures { result ≡ list_all (λ condition. answers.text_meets condition own.now) conditions.now }
+/// Whether all conditions hold at a node and of its text, where it has one.
+pub(crate) fn are_met(conditions: &[Condition], glance: &Glance, own: Option<&TextFields>) -> bool
+    ensures { result ≡ list_all (answers.meets_at glance.now (option_copied own.entry)) conditions.now }
 {
     conditions
         .iter()
-        .all(|condition| is_met_by_text(condition, own))
+        .all(|condition| is_met(condition, glance, own))
 }

@@ -1,12 +1,15 @@
-ghost use Rattle.std.specs.Prelude.{◌≡◌};
+ghost use Rattle.std.specs.Prelude.{◌≡◌, true, is_none, IfSome};
 ghost use Rattle.std.specs.List.{list_all, list_any};
 ghost use Rattle.lx_node.specs.Kinds as kinds;
 ghost use Rattle.lx_node.specs.OfKind as of_kind;
 ghost use Rattle.lx_step.specs.Patches as patches;
+ghost use Rattle.lx_node.specs.declared.node.View.{View};
+ghost use Rattle.lx_rules.specs.Glances.{glance_of};
 ghost use Rattle.lx_rules.specs.Idle as idles;
 ghost use Rattle.lx_rules.specs.Types as types;
 
 use crate::changes::differs;
+use crate::glance::Glance;
 use crate::types::{is_kind, same_kind};
 use lx_node::{Kind, Txt, View};
 use lx_step::{Member, NewNode, Patch, SelfEdit};
@@ -49,11 +52,11 @@ fn has_kind(kind: Kind, children: &[Kind]) -> bool
     children.iter().any(|child| same_kind(kind, *child))
 }
 
-/// Whether a new node may be where this one is, and this one isn't the root.
-fn may_stand(view: &View, new: &NewNode) -> bool
-    ensures { result ≡ idles.may_stand view.now new.now }
+/// Whether a new node may be below a parent in the place of a node of a kind, which isn't the root.
+fn may_stand(parent: Option<Kind>, kind: Kind, new: &NewNode) -> bool
+    ensures { (v : View) → v.parent ≡ parent → v.kind ≡ kind → result ≡ idles.may_stand v new.now }
 {
-    new.fields.is_of_kind(new.kind) && !is_root(view.kind) && is_held(view.parent, new.kind)
+    new.fields.is_of_kind(new.kind) && !is_root(kind) && is_held(parent, new.kind)
 }
 
 /// Whether there is a character in a text that is added.
@@ -103,38 +106,55 @@ fn changes(view: &View, patch: &Patch) -> bool
         && differs(&view.fields, patch.members.items())
 }
 
-/// Whether an edit has nothing to do at a view: the kinds don't allow it, what it holds isn't of the kind that it is
-/// for, a number that it sets is out of its range, or its end is reached. It takes no memory.
+/// Whether an edit has nothing to do at a node that is seen so at a glance: the kinds don't allow it, or its end is
+/// reached. Where that depends on the node's fields or its children, there is no answer. It takes no memory.
 #[tactic(auto, unfolding(crate::specs::Idle::idle_at, lx_node::specs::Kinds::is_text))]
-pub fn idle(view: &View, edit: &SelfEdit) -> bool
+pub fn idle_at_glance(glance: &Glance, edit: &SelfEdit) -> Option<bool>
+    ensures idle { IfSome result (λ idle. (v : View) → glance_of v ≡ glance.now → idle ≡ idles.idle_at v edit.now) }
+    ensures within { is_none result ≡ idles.looks_within edit.now }
+{
+    let Glance { kind, parent, .. } = *glance;
+    let has_work = match edit {
+        SelfEdit::Add(text) => matches!(kind, Kind::Text) && has_text(text),
+        SelfEdit::Remove => !is_root(kind),
+        SelfEdit::Wrap(new) => {
+            may_stand(parent, kind, new) && !is_kind(parent, new.kind) && new.kind.may_hold(kind)
+        }
+        SelfEdit::Before(new) => may_stand(parent, kind, new) && !is_kind(glance.prev, new.kind),
+        SelfEdit::After(new) => may_stand(parent, kind, new) && !is_kind(glance.next, new.kind),
+        SelfEdit::MergeNext => kind.is_element() && is_kind(glance.next, kind),
+        SelfEdit::Set(_) | SelfEdit::Replace(_) | SelfEdit::Unwrap | SelfEdit::Child(_) => {
+            return None;
+        }
+    };
+    Some(!has_work)
+}
+
+/// Whether an edit that looks at a node's fields or its children has nothing to do at a view: the kinds don't allow it,
+/// what it holds isn't of the kind that it is for, a number that it sets is out of its range, or its end is reached. It
+/// takes no memory.
+#[tactic(auto, unfolding(crate::specs::Idle::idle_at))]
+pub fn idle_within(view: &View, edit: &SelfEdit) -> bool
+    requires { idles.looks_within edit.now ≡ true }
     ensures { result ≡ idles.idle_at view.now edit.now }
 {
-    match edit {
-        SelfEdit::Set(patch) => !changes(view, patch),
-        SelfEdit::Add(text) => !(matches!(view.kind, Kind::Text) && has_text(text)),
-        SelfEdit::Remove => is_root(view.kind),
+    let children = view.children.items();
+    let has_work = match edit {
+        SelfEdit::Set(patch) => changes(view, patch),
         SelfEdit::Replace(new) => {
-            !(may_stand(view, new)
+            may_stand(view.parent, view.kind, new)
                 && !same_kind(view.kind, new.kind)
-                && may_hold_all(new.kind, view.children.items()))
-        }
-        SelfEdit::Wrap(new) => {
-            !(may_stand(view, new)
-                && !is_kind(view.parent, new.kind)
-                && new.kind.may_hold(view.kind))
+                && may_hold_all(new.kind, children)
         }
         SelfEdit::Unwrap => {
-            !(view.kind.is_element()
-                && !is_root(view.kind)
-                && are_held(view.parent, view.children.items()))
+            view.kind.is_element() && !is_root(view.kind) && are_held(view.parent, children)
         }
-        SelfEdit::Before(new) => !(may_stand(view, new) && !is_kind(view.prev, new.kind)),
-        SelfEdit::After(new) => !(may_stand(view, new) && !is_kind(view.next, new.kind)),
         SelfEdit::Child(new) => {
-            !(new.fields.is_of_kind(new.kind)
+            new.fields.is_of_kind(new.kind)
                 && view.kind.may_hold(new.kind)
-                && !has_kind(new.kind, view.children.items()))
+                && !has_kind(new.kind, children)
         }
-        SelfEdit::MergeNext => !(view.kind.is_element() && is_kind(view.next, view.kind)),
-    }
+        _ => false,
+    };
+    !has_work
 }

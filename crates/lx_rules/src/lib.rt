@@ -6,11 +6,13 @@ mod any_rule;
 mod built_in;
 mod changes;
 mod conditions;
+mod glance;
 mod idling;
 mod transform;
 mod types;
 
 pub use any_rule::AnyRule;
 pub use built_in::{CellParagraph, ListMerge};
-pub use idling::idle;
+pub use glance::Glance;
+pub use idling::{idle_at_glance, idle_within};
 pub use transform::{KindSet, Transform};

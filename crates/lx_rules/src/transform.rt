@@ -1,8 +1,9 @@
-ghost use Rattle.std.specs.Prelude.{◌≡◌, false, ℕ, List, IfOk};
-ghost use Rattle.lx_rules.specs.Answers.{Answers, NeverAnswers, script_rows, script_acts};
+ghost use Rattle.std.specs.Prelude.{◌≡◌, ℕ, IfOk, option_copied};
+ghost use Rattle.lx_rules.specs.Answers.{Answers, AreAnswers, script_rows, script_acts};
 
-use crate::conditions::{are_met, are_met_by_text};
-use lx_node::{Kind, NoMemory, TextFields, View};
+use crate::conditions::are_met;
+use crate::glance::Glance;
+use lx_node::{Kind, NoMemory, TextFields};
 use lx_step::{Rule, SelfEdit, TypeRow};
 use std::alloc::Global;
 
@@ -50,17 +51,15 @@ pub trait Transform {
     fn on(&self) -> KindSet
         ensures { result.0 ≡ rows self.now };
 
-    /// Whether it may have edits of a text, whatever is around that. Where it says no, no view needs to be made. It
-    /// takes no memory.
-    fn may_act_on(&self, text: &TextFields) -> bool
-        ensures { result ≡ false → NeverAnswers (answers self.now) text.now }
-    {
-        true
-    }
-
-    /// Its edits of a node of this view. It takes memory for them.
-    fn acts(&self, alloc: Global, view: &View) -> Result<Vec<SelfEdit>, NoMemory>
-        ensures { IfOk result (λ edits. edits.items ≡ answers self.now view.now) };
+    /// Its edits of a node, which it tells by a glance at it and by its text, where it is one. It takes memory for the
+    /// edits alone.
+    fn acts(
+        &self,
+        alloc: Global,
+        glance: &Glance,
+        own: Option<&TextFields>,
+    ) -> Result<Vec<SelfEdit>, NoMemory>
+        ensures { IfOk result (λ edits. AreAnswers (answers self.now) glance.now (option_copied own.entry) edits.items) };
 }
 
 impl Transform for Rule {
@@ -72,13 +71,14 @@ impl Transform for Rule {
         KindSet::of_row(self.on)
     }
 
-    fn may_act_on(&self, text: &TextFields) -> bool {
-        are_met_by_text(self.conditions.items(), text)
-    }
-
     #[tactic(auto, unfolding(crate::specs::Answers::script_acts))]
-    fn acts(&self, alloc: Global, view: &View) -> Result<Vec<SelfEdit>, NoMemory> {
-        if are_met(self.conditions.items(), view) {
+    fn acts(
+        &self,
+        alloc: Global,
+        glance: &Glance,
+        own: Option<&TextFields>,
+    ) -> Result<Vec<SelfEdit>, NoMemory> {
+        if are_met(self.conditions.items(), glance, own) {
             Ok(self.edits.copy(alloc)?.into_vec())
         } else {
             Ok(Vec::new(alloc))

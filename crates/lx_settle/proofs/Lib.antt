@@ -1,3 +1,4 @@
+pub mod Glanced
 pub mod Tests
 pub mod Seen
 pub mod Carried

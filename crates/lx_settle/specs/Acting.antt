@@ -1,11 +1,10 @@
 -- What an edit of a rule does, and the rules at a node.
-use Rattle.std.specs.Prelude.{ℕ, ◌≡◌, ◌≢◌, ◌&&◌, Bool, false, if◌then◌else◌, List, [], map, Option, None, Some, Result, Ok}
+use Rattle.std.specs.Prelude.{ℕ, ◌≢◌, ◌&&◌, Bool, false, if◌then◌else◌, List, [], map, Option, None, Some, Result, Ok}
 use Rattle.lx_node.specs.Kinds.{is_element}
 use Rattle.lx_node.specs.OfKind.{IsOfKind}
 use Rattle.lx_node.specs.declared.kind.Kind.{Kind}
 use Rattle.lx_node.specs.declared.kind.Kind.TheVariants.{Root}
 use Rattle.lx_node.specs.declared.fields.Fields.{Fields}
-use Rattle.lx_node.specs.declared.node.Node.{Node}
 use Rattle.lx_node.specs.declared.node.View.{View}
 use Rattle.lx_node.specs.declared.cause.Cause.{Cause}
 use Rattle.lx_step.specs.Patches.{patched}
@@ -15,7 +14,7 @@ use Rattle.lx_step.specs.declared.rule.SelfEdit.{SelfEdit}
 use Rattle.lx_step.specs.declared.rule.SelfEdit.TheVariants.{Set, Add, Remove, Replace, Wrap, Unwrap, Before, After, Child, MergeNext}
 use Rattle.lx_forest.specs.Forest.{Label}
 use Rattle.lx_forest.specs.Lookups.{label_of, kind_of, size_of, next_of, is_attached}
-use Rattle.lx_forest.specs.Views.{seen_fields, view_of}
+use Rattle.lx_forest.specs.Views.{view_of}
 use Rattle.lx_draft.specs.Working.{Working}
 use Rattle.lx_draft.specs.Faults.{after}
 use Rattle.lx_draft.specs.Steps.{new_step, set_step, splice_step, put_step}
@@ -88,10 +87,6 @@ edit_step k edit w =
 abbrev pub answered_at : Option View → Answers → List SelfEdit
 answered_at None rule = []
 answered_at (Some v) rule = rule v
-
--- a rule has no edits of a node, whatever is around that
-abbrev pub HasNoEdits : Node → Answers → Type 0
-HasNoEdits node rule = (v : View) → v.kind ≡ node.kind → v.fields ≡ seen_fields node.fields → rule v ≡ []
 
 -- a rule at a node: the edits that it answers at the node's view, in turn
 unfoldable pub rule_step : ℕ → Answers → Working → Result Working Cause

@@ -3,6 +3,7 @@
 #![tactic(auto)]
 
 mod acting;
+mod glances;
 mod laws;
 mod passes;
 mod settling;

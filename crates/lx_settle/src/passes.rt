@@ -1,28 +1,30 @@
-ghost use Rattle.std.specs.Prelude.{◌≡◌, ◌≤◌, ◌&&◌, false, length, IfOk, IfErr, is_some};
+ghost use Rattle.std.specs.Prelude.{◌≡◌, ◌≤◌, ◌&&◌, true, length, IfOk, IfErr, is_some, option_copied};
 ghost use Rattle.lx_marks.specs.Marks.{flag_in};
 ghost use Rattle.lx_forest.specs.Lookups.{is_attached};
 ghost use Rattle.lx_forest.specs.Views.{view_of};
 ghost use Rattle.lx_edit.specs.InTurn.{in_turn};
-ghost use Rattle.lx_rules.specs.Idle as idles;
+ghost use Rattle.lx_rules.specs.Idle.{looks_within};
 ghost use Rattle.lx_links.specs.Stands.{Sound};
 ghost use Rattle.lx_draft.specs.Working.{IsWorking};
 ghost use Rattle.lx_edit.specs.Standing.{Does};
-ghost use Rattle.lx_rules.specs.Answers.{asked};
+ghost use Rattle.lx_rules.specs.Answers.{asked, AreAnswers};
 ghost use Rattle.lx_settle.specs.Acting as acting;
 ghost use Rattle.lx_settle.specs.Acting.{all_asked};
 ghost use Rattle.lx_settle.specs.Exhausted.{IsExhausted};
 ghost use Rattle.lx_settle.specs.Passes as passes;
 
 use crate::acting::act;
+use crate::glances::{glance_at, text_at};
 use lx_draft::Draft;
 use lx_edit::join_around;
-use lx_node::{Fault, Fields, Key, NoMemory, Node, View};
-use lx_rules::{Transform, idle};
+use lx_node::{Fault, Key, NoMemory, TextFields};
+use lx_rules::{Glance, Transform, idle_at_glance, idle_within};
 use lx_step::SelfEdit;
 use std::alloc::Global;
 
-/// Whether an edit has something to do at the node of a key.
-fn has_work(alloc: Global, draft: &Draft, edit: &SelfEdit, key: Key) -> Result<bool, NoMemory>
+/// Whether an edit has something to do at the node of a key. No view is made where a glance tells.
+#[tactic(auto, unfolding(lx_rules::specs::Idle::idle_at))]
+fn has_work(draft: &Draft, edit: &SelfEdit, key: Key) -> Result<bool, NoMemory>
     ensures work { IfOk result (λ work. work ≡ (is_attached draft.now.forest key && acting.has_work_at (view_of draft.now.forest key) edit.now)) }
     ensures sound { Sound draft.now.forest }
     ensures holds { IsWorking draft.now }
@@ -30,18 +32,25 @@ fn has_work(alloc: Global, draft: &Draft, edit: &SelfEdit, key: Key) -> Result<b
     if !draft.links().is_attached(key) {
         return Ok(false);
     }
-    match draft.links().view(key)? {
-        Some(view) => Ok(has_work_seen(&view, edit)),
-        None => Ok(false),
+    let Some(glance) = glance_at(draft.links(), key) else {
+        return Ok(false);
+    };
+    match idle_at_glance(&glance, edit) {
+        Some(idle) => Ok(!idle),
+        None => has_work_within(draft, edit, key),
     }
 }
 
-/// The contrary of idle.
+/// Whether an edit that looks at a node's fields or its children has something to do there.
 #[tactic(auto, unfolding(lx_rules::specs::Idle::idle_at))]
-fn has_work_seen(view: &View, edit: &SelfEdit) -> bool
-    ensures { result ≡ idles.has_work view.now edit.now }
+fn has_work_within(draft: &Draft, edit: &SelfEdit, key: Key) -> Result<bool, NoMemory>
+    requires { looks_within edit.now ≡ true }
+    ensures { IfOk result (λ work. work ≡ acting.has_work_at (view_of draft.now.forest key) edit.now) }
 {
-    !idle(view, edit)
+    match draft.links().view(key)? {
+        Some(view) => Ok(!idle_within(&view, edit)),
+        None => Ok(false),
+    }
 }
 
 /// An edit, passed over where it is idle at its present view, and where the node isn't in the root's
@@ -51,7 +60,7 @@ fn run_edit(alloc: Global, draft: &mut Draft, edit: &SelfEdit, key: Key) -> Resu
     ensures does { Does (acting.edit_step key edit.now draft.old) draft.new result }
     ensures refused { IfErr result IsExhausted }
 {
-    if has_work(alloc, draft, edit, key)? {
+    if has_work(draft, edit, key)? {
         act(alloc, draft, edit, key)
     } else {
         Ok(())
@@ -70,12 +79,17 @@ fn run_edits(alloc: Global, draft: &mut Draft, edits: &[SelfEdit], key: Key) -> 
     Ok(())
 }
 
-/// What a rule answers at a view, where that is of the rule's types.
-fn answer<T: Transform>(alloc: Global, rule: &T, view: &View) -> Result<Vec<SelfEdit>, NoMemory>
-    ensures { IfOk result (λ edits. edits.items ≡ asked (T.rows rule.now) (T.answers rule.now) view.now) }
+/// What a rule answers at a node that is seen so at a glance, where it is of the rule's types.
+fn answer<T: Transform>(
+    alloc: Global,
+    rule: &T,
+    glance: &Glance,
+    own: Option<&TextFields>,
+) -> Result<Vec<SelfEdit>, NoMemory>
+    ensures { IfOk result (λ edits. AreAnswers (asked (T.rows rule.now) (T.answers rule.now)) glance.now (option_copied own.entry) edits.items) }
 {
-    if rule.on().has(view.kind) {
-        rule.acts(alloc, view)
+    if rule.on().has(glance.kind) {
+        rule.acts(alloc, glance, own)
     } else {
         Ok(Vec::new(alloc))
     }
@@ -90,8 +104,9 @@ fn answered<T: Transform>(
 ) -> Result<Vec<SelfEdit>, NoMemory>
     ensures { IfOk result (λ edits. edits.items ≡ acting.answered_at (view_of draft.now.forest key) (asked (T.rows rule.now) (T.answers rule.now))) }
 {
-    match draft.links().view(key)? {
-        Some(view) => answer(alloc, rule, &view),
+    let links = draft.links();
+    match glance_at(links, key) {
+        Some(glance) => answer(alloc, rule, &glance, text_at(links, key)),
         None => Ok(Vec::new(alloc)),
     }
 }
@@ -106,32 +121,18 @@ fn run_rule<T: Transform>(alloc: Global, draft: &mut Draft, rule: &T, key: Key) 
     run_edits(alloc, draft, edits.as_slice(), key)
 }
 
-/// Whether a rule may have edits of a node: it is of the node's type, and what it asks of texts holds of a text.
-#[tactic(auto, using(crate::proofs::Quiet::quiet_type, crate::proofs::Quiet::quiet_text))]
-fn may_act_at<T: Transform>(rule: &T, node: &Node) -> bool
-    ensures { result ≡ false → acting.HasNoEdits node.now (asked (T.rows rule.now) (T.answers rule.now)) }
-{
-    if !rule.on().has(node.kind) {
-        return false;
-    }
-    match &node.fields {
-        Fields::Text(text) => rule.may_act_on(text),
-        _ => true,
-    }
-}
-
-/// The rules of a list from the first one on that may have edits of the node of a key. No view is made for those before.
+/// The rules of a list from the first one on that is of the type of the node of a key.
 #[tactic(auto, using(crate::proofs::Quiet::quiet_passed))]
 fn from_due<'a, T: Transform>(draft: &Draft, rules: &'a [T], key: Key) -> &'a [T]
     ensures same { in_turn (acting.rule_step key) (all_asked T.rows T.answers result.now) draft.now ≡ in_turn (acting.rule_step key) (all_asked T.rows T.answers rules.now) draft.now }
     ensures fewer { length result.now ≤ length rules.now }
 {
-    let Some(node) = draft.links().node(key) else {
+    let Some(kind) = draft.links().kind(key) else {
         return rules;
     };
     let mut rest = rules;
     while let Some((rule, later)) = rest.split_first() {
-        if may_act_at(rule, node) {
+        if rule.on().has(kind) {
             return rest;
         }
         rest = later;
