@@ -1,18 +1,24 @@
-//! Tests of drafts, of how one list of children becomes another, of nodes that aren't kept, of copies of host trees, and of
-//! calls that no line reaches: what no clause can say, as that a call succeeds where memory is ample.
+//! Tests of the libraries: what no clause says and no line shows. Clauses don't say that a call succeeds where memory is
+//! ample, how often an item is copied, in which of the allowed orders moves come, nor that what was forked or copied shares
+//! nothing that is written. The table of kinds is laid beside the documented one.
 //!
-//! They are here since a crate with tests is proved twice. Those of the layers below are in `lx_tests_trees` and
-//! `lx_tests_lines`. What steps make of a state is shown by the program `lx_examples`, and replies to lines by the program
-//! `lx_rows`, whose input and output are stored.
+//! They are here since a crate with tests is proved twice. What steps make of a state is shown by the program `lx_examples`,
+//! and replies to lines by the program `lx_rows`, whose input and output are stored.
 #![tactic(auto)]
 
-#[cfg(test)]
-mod aside;
 #[cfg(test)]
 mod copies;
 #[cfg(test)]
 mod drafts;
 #[cfg(test)]
+mod hosts;
+#[cfg(test)]
+mod kinds;
+#[cfg(test)]
+mod links;
+#[cfg(test)]
 mod moves;
 #[cfg(test)]
-mod unkept;
+mod stores;
+#[cfg(test)]
+mod told;

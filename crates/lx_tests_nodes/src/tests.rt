@@ -1,5 +1,0 @@
-mod marks;
-mod nodes;
-mod patches;
-mod selections;
-mod texts;

@@ -1,5 +1,0 @@
-mod hosts;
-mod links;
-mod making;
-mod shapes;
-mod stores;
