@@ -1,8 +1,8 @@
 -- Runs over memory.
 use Rattle.std.proofs.Common.{◌≡◌, ◌⊎◌, inl, inr, ℕ, Option, Some, List, [], take, refl, sym, ap, ◌∙◌, subst}
 use Rattle.lx_io.specs.Devices.{Appends}
-use Rattle.lx_words.specs.declared.options.Mode.{Mode}
-use Rattle.lx_words.specs.declared.options.Mode.TheVariants.{Plain, Hub, Outline, Generate}
+use Rattle.lx_arguments.specs.declared.options.Mode.{Mode}
+use Rattle.lx_arguments.specs.declared.options.Mode.TheVariants.{Plain, Hub, Outline, Generate}
 use Rattle.lx_cli.specs.Generating.{mode_for, RunsBy, RunsAsAsked}
 use Rattle.lx_cli.specs.Run.{SourceSeen, SinkSeen, Seen}
 use Rattle.lx_cli.specs.Ends.{number_of_status}

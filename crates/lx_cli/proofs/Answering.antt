@@ -1,11 +1,11 @@
 -- Lines that are answered one after another.
 use Rattle.std.proofs.Common.{◌≡◌, ℕ, ◌+◌, List, [], ◌∷◌, ◌++◌, sym, ap, ◌∙◌, refl, subst, append_assoc, length-append, arith}
 use Rattle.std.proofs.lemmas.List.{append-nil}
-use Rattle.lx_layers.specs.Served.{Served, AnswersIn, FollowsIn, FollowsInTo}
+use Rattle.lx_serving.specs.Served.{Served, AnswersIn, FollowsIn, FollowsInTo}
 use Rattle.lx_cli.specs.declared.session.Unanswered.{Unanswered}
 use Rattle.lx_cli.specs.declared.session.Unanswered.TheVariants.{WriteFault, Memory}
 use Rattle.lx_cli.specs.Run.{SinkSeen, IsFrontOfReplies}
-use Rattle.lx_cli.specs.Steps.{IsPieceCutOff, AreAnswered, AreUnanswered}
+use Rattle.lx_cli.specs.Steps.{IsPieceCutOff, AreAnswered, AreUnanswered, LackMemory}
 use Rattle.lx_cli.proofs.Devices.{AreWritten-none, AreWritten-append, AreCutOff-append}
 
 pub FollowsInTo-one : (old new : Served) (line answer : List ℕ) → AnswersIn old line answer new → FollowsInTo old (line ∷ []) (answer ++ 10 ∷ []) new
@@ -112,4 +112,12 @@ AreUnanswered-one old new s t line answer p q = record {
   written = q.written;
   front = IsFrontOfReplies-front old new (line ∷ []) q.written q.later (answer ++ 10 ∷ []) (FollowsInTo-one old new line answer p) q.front;
   sink = q.sink;
+}
+
+-- all of them are answered, and then there is no memory
+pub LackMemory-answered : (old new : Served) (s t : SinkSeen) (lines : List (List ℕ)) → AreAnswered lines old new s t → LackMemory lines old s t
+LackMemory-answered old new s t lines p = record {
+  written = p.written;
+  front = IsFrontOfReplies-front old new lines p.written [] p.written p.follows (append-nil p.written);
+  sink = p.sink;
 }

@@ -1,15 +1,15 @@
 -- Runs as their arguments have them, and runs that generate a session.
 use Rattle.std.proofs.Common.{◌≡◌, ℕ, true, false, ◌+◌, inl, inr, List, [], ◌∷◌, ◌++◌, length, refl, ap, subst, arith}
-use Rattle.lx_words.specs.declared.options.Generated.{Generated}
-use Rattle.lx_words.specs.declared.options.Mode.{Mode}
-use Rattle.lx_words.specs.declared.options.Mode.TheVariants.{Plain, Hub, Outline, Generate}
-use Rattle.lx_words.specs.Words.{are_taken, asked_for, delay_in}
-use Rattle.lx_generator.specs.Sessions.{IsTold}
+use Rattle.lx_arguments.specs.declared.options.Generated.{Generated}
+use Rattle.lx_arguments.specs.declared.options.Mode.{Mode}
+use Rattle.lx_arguments.specs.declared.options.Mode.TheVariants.{Plain, Hub, Outline, Generate}
+use Rattle.lx_arguments.specs.Arguments.{are_taken, asked_for, delay_asked}
+use Rattle.lx_generator.specs.Sessions.{IsSummary}
 use Rattle.lx_cli.specs.declared.status.Status.{Status}
 use Rattle.lx_cli.specs.declared.status.Status.TheVariants.{Done, Usage, ReadFault, WriteFault, Memory, InputTooLong}
 use Rattle.lx_editor.specs.Follows.{Follows}
-use Rattle.lx_layers.specs.Served.{Served, FollowsIn, new_layer, plain}
-use Rattle.lx_layers.proofs.Plain.{follows_plain}
+use Rattle.lx_serving.specs.Served.{Served, FollowsIn, new_layer, with_nothing}
+use Rattle.lx_serving.proofs.Plain.{follows_plain}
 use Rattle.lx_cli.specs.Run.{begun_with, served_with, SourceSeen, SinkSeen, Seen, Ends, IsAnsweredRun, IsFrontOfReplies, IsRun, IsServedRun}
 use Rattle.lx_cli.specs.Steps.{AreWritten, IsPieceCutOff}
 use Rattle.lx_cli.specs.Generating.{GeneratedEnds, IsGeneratedRun, RunsAsAsked, RunsBy, mode_for}
@@ -67,17 +67,17 @@ answered_along A B goes status run p = record {
 }
 
 -- arguments that ask for no mode have nothing beside the editor
-served_plain : (words : List (List ℕ)) → (asked_for words).mode ≡ Plain → served_with words ≡ plain (begun_with words)
+served_plain : (words : List (List ℕ)) → (asked_for words).mode ≡ Plain → served_with words ≡ with_nothing (begun_with words)
 served_plain words is = ap (λ (m : Mode). record { editor = begun_with words; layer = new_layer m }) is
 
 -- arguments that are taken, and ask for no mode
 pub RunsAsAsked-plain : (status : Status) (run : Seen) → are_taken run.words ≡ true → (asked_for run.words).mode ≡ Plain
     → IsServedRun status run → RunsAsAsked status run
 RunsAsAsked-plain status run taken is runs =
-    let plainly : IsAnsweredRun (FollowsIn (plain (begun_with run.words))) status run =
+    let plainly : IsAnsweredRun (FollowsIn (with_nothing (begun_with run.words))) status run =
     subst (λ (s : Served). IsAnsweredRun (FollowsIn s) status run) (served_plain run.words is) runs in
     RunsAsAsked-taken Plain status run taken is
-    (answered_along (FollowsIn (plain (begun_with run.words))) (Follows (begun_with run.words)) (follows_plain (begun_with run.words)) status run plainly)
+    (answered_along (FollowsIn (with_nothing (begun_with run.words))) (Follows (begun_with run.words)) (follows_plain (begun_with run.words)) status run plainly)
 
 -- ---- sessions that are generated
 
@@ -106,7 +106,7 @@ RunsAsAsked-none words q s = go (mode_for words)
 
 -- the summary and a line end are written
 pub IsGeneratedRun-done : (session : Generated) (words : List (List ℕ)) (summary : List ℕ) (q : SourceSeen) (s t : SinkSeen)
-    → IsTold session (delay_in words) summary → AreWritten (summary ++ 10 ∷ []) s t
+    → IsSummary session (delay_asked words) summary → AreWritten (summary ++ 10 ∷ []) s t
     → IsGeneratedRun Done session (worded words [] (summary ++ 10 ∷ []) q q s t)
 unfolding GeneratedEnds
 IsGeneratedRun-done session words summary q s t told written = record {
@@ -120,7 +120,7 @@ IsGeneratedRun-done session words summary q s t told written = record {
 
 -- they are cut off
 pub IsGeneratedRun-cut_off : (session : Generated) (words : List (List ℕ)) (summary : List ℕ) (q : SourceSeen) (s t : SinkSeen)
-    → IsTold session (delay_in words) summary → (cut : IsPieceCutOff (summary ++ 10 ∷ []) s t)
+    → IsSummary session (delay_asked words) summary → (cut : IsPieceCutOff (summary ++ 10 ∷ []) s t)
     → IsGeneratedRun WriteFault session (worded words [] cut.written q q s t)
 unfolding GeneratedEnds
 IsGeneratedRun-cut_off session words summary q s t told cut = record {

@@ -3,12 +3,12 @@ use Rattle.std.proofs.Common.{◌≡◌, ℕ, ◌+◌, ◌<◌, ◌≤◌, List,
 use Rattle.std.proofs.Math.Seq.{take-append-add}
 use Rattle.std.proofs.lemmas.List.{length-take, take-take, take-append-drop}
 use Rattle.lx_io.specs.Devices.{Consumes, HasRisen, IsCounted}
-use Rattle.lx_layers.specs.Served.{Served, spent}
+use Rattle.lx_serving.specs.Served.{Served, spent}
 use Rattle.lx_cli.specs.declared.session.Unanswered.{Unanswered}
 use Rattle.lx_cli.specs.declared.session.Unanswered.TheVariants as unanswered
 use Rattle.lx_cli.specs.declared.reading.Stop.{Stop}
 use Rattle.lx_cli.specs.declared.reading.Stop.TheVariants.{End, ReadFault, WriteFault, Memory, TooLong}
-use Rattle.lx_cli.specs.Lines.{ended, unended}
+use Rattle.lx_cli.specs.Lines.{lines_ended, unended}
 use Rattle.lx_cli.specs.Run.{SourceSeen, SinkSeen}
 use Rattle.lx_cli.specs.Steps.{AreUnanswered, AreTaken, IsUnended, AreBrokenOff, Moment, ReadsOn, IsUnanswered, Stops}
 use Rattle.lx_cli.proofs.Lines.{ended-append, length-ended-le, IsUnended-unended}
@@ -25,20 +25,20 @@ AreBrokenOff-failed a b left faults reads = record {
 
 -- bytes after those that are unanswered
 pub AreUnanswered-longer : (why : Unanswered) (served : Served) (s t : SinkSeen) (waits xs : List ℕ) (m n : ℕ) → m ≤ n
-    → AreUnanswered why (ended (waits ++ take m xs)) served s t → AreUnanswered why (ended (waits ++ take n xs)) served s t
+    → AreUnanswered why (lines_ended (waits ++ take m xs)) served s t → AreUnanswered why (lines_ended (waits ++ take n xs)) served s t
 AreUnanswered-longer why served s t waits xs m n le p =
     let front : take m (take n xs) ≡ take m xs = take-take m n xs le in
     let rest : List ℕ = drop m (take n xs) in
     let whole : take m xs ++ rest ≡ take n xs = ap (λ bytes. bytes ++ rest) (sym front) ∙ take-append-drop m (take n xs) in
     subst (λ (lines : List (List ℕ)). AreUnanswered why lines served s t)
-    (sym (ended-append (waits ++ take m xs) rest) ∙ ap ended (append_assoc waits (take m xs) rest ∙ ap (λ bytes. waits ++ bytes) whole))
-    (AreUnanswered-later why served s t (ended (waits ++ take m xs)) (ended (unended (waits ++ take m xs) ++ rest)) p)
+    (sym (ended-append (waits ++ take m xs) rest) ∙ ap lines_ended (append_assoc waits (take m xs) rest ∙ ap (λ bytes. waits ++ bytes) whole))
+    (AreUnanswered-later why served s t (lines_ended (waits ++ take m xs)) (lines_ended (unended (waits ++ take m xs) ++ rest)) p)
 
 -- one read that gave bytes, not all of whose lines are answered
 pub IsUnanswered-one : (why : Unanswered) (may_come count within : ℕ) (into : List ℕ) (a b : Moment)
     → 0 < count → count ≤ length into → count ≤ may_come + 1 → within ≤ count → within ≤ may_come
     → Consumes a.source.left b.source.left (take count into) → b.source.faults ≡ a.source.faults → IsCounted a.source.reads b.source.reads 1
-    → AreUnanswered why (ended (a.session.pending.items ++ take within into)) a.session.served a.sink b.sink
+    → AreUnanswered why (lines_ended (a.session.pending.items ++ take within into)) a.session.served a.sink b.sink
     → IsUnanswered why may_come (take count into) a b
 IsUnanswered-one why may_come count within into a b some fits most le short consumes faults reads unanswered = record {
   within = rw (length-take count into) (omega arith);
@@ -49,7 +49,7 @@ IsUnanswered-one why may_come count within into a b some fits most le short cons
   };
   unanswered =
       AreUnanswered-longer why a.session.served a.sink b.sink a.session.pending.items (take count into) within may_come short
-      (subst (λ (bytes : List ℕ). AreUnanswered why (ended (a.session.pending.items ++ bytes)) a.session.served a.sink b.sink)
+      (subst (λ (bytes : List ℕ). AreUnanswered why (lines_ended (a.session.pending.items ++ bytes)) a.session.served a.sink b.sink)
       (sym (take-take within count into le)) unanswered);
 }
 
@@ -74,7 +74,7 @@ IsUnanswered-behind why a b c all left xs ys e p q = record {
   within = omega (arith, length-append xs ys, q.within);
   source = AreRead-append a.source b.source c.source xs ys p.source q.source;
   unanswered =
-      subst (λ (bytes : List ℕ). AreUnanswered why (ended (a.session.pending.items ++ bytes)) a.session.served a.sink c.sink)
+      subst (λ (bytes : List ℕ). AreUnanswered why (lines_ended (a.session.pending.items ++ bytes)) a.session.served a.sink c.sink)
       (sym (take-append-add xs ys left) ∙ ap (λ n. take n (xs ++ ys)) e)
       (AreUnanswered-taken why a.session b.session a.sink b.sink c.sink xs (take left ys) p.taken q.unanswered);
 }

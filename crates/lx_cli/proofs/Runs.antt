@@ -2,10 +2,10 @@
 use Rattle.std.proofs.Common.{◌≡◌, ◌≢◌, ℕ, true, false, ◌+◌, ◌<◌, ◌≤◌, ◌⊎◌, inl, inr, List, [], ◌++◌, length, take, sym, ap, ◌∙◌, refl, subst, length-append, arith}
 use Rattle.lx_node.specs.Limits.{last_u32}
 use Rattle.lx_io.specs.Devices.{Consumes, IsAtEnd, HasRisen, IsCounted, last_count}
-use Rattle.lx_words.specs.declared.options.Options.{Options}
-use Rattle.lx_words.specs.Words.{are_taken, asked_for}
-use Rattle.lx_layers.specs.Served.{Served, spent}
-use Rattle.lx_layers.proofs.Plain.{spent_new}
+use Rattle.lx_arguments.specs.declared.options.Options.{Options}
+use Rattle.lx_arguments.specs.Arguments.{are_taken, asked_for}
+use Rattle.lx_serving.specs.Served.{Served, spent}
+use Rattle.lx_serving.proofs.Plain.{spent_new}
 use Rattle.lx_cli.specs.declared.session.Session.{Session}
 use Rattle.lx_cli.specs.declared.session.Unanswered.{Unanswered}
 use Rattle.lx_cli.specs.declared.session.Unanswered.TheVariants as unanswered
@@ -13,7 +13,7 @@ use Rattle.lx_cli.specs.declared.reading.Stop.{Stop}
 use Rattle.lx_cli.specs.declared.reading.Stop.TheVariants as stop
 use Rattle.lx_cli.specs.declared.status.Status.{Status}
 use Rattle.lx_cli.specs.declared.status.Status.TheVariants.{Done, Usage, ReadFault, Memory, InputTooLong}
-use Rattle.lx_cli.specs.Lines.{ended, unended, last_line, lines_of}
+use Rattle.lx_cli.specs.Lines.{lines_ended, unended, last_line, lines_of}
 use Rattle.lx_cli.specs.Run.{served_with, input_limit, SourceSeen, SinkSeen, Seen, Ends, IsAnsweredRun, IsServedRun}
 use Rattle.lx_cli.specs.Steps.{AreAnswered, AreUnanswered, AreTaken, IsUnended, IsNew, Moment, IsEnd, IsBrokenOff, IsUnanswered, IsPastLimit, HasStopped, unanswered_status, stop_status}
 use Rattle.lx_cli.proofs.Lines.{IsUnended-none, length-ended-le}
@@ -42,11 +42,11 @@ unfolding Ends
 IsAnsweredRun-none AreReplies none words q s = record {
   ends = record {
     taken = inr (refl, refl);
-    lines = ended (take input_limit []);
+    lines = lines_ended (take input_limit []);
     may = inl refl;
     front = record {
       answered = [];
-      later_lines = ended (take input_limit []);
+      later_lines = lines_ended (take input_limit []);
       front = refl;
       replies = [];
       later_bytes = [];
@@ -106,10 +106,10 @@ module _ (words : List (List ℕ)) (is_taken : are_taken words ≡ true) where
 
   -- what is taken in a run from its begin
   taken_new : (a b : Session) (s t : SinkSeen) (bytes : List ℕ) → IsNew (asked_for words) a → AreTaken bytes a b s t
-      → AreAnswered (ended bytes) (served_with words) b.served s t
+      → AreAnswered (lines_ended bytes) (served_with words) b.served s t
   taken_new a b s t bytes new p =
-      subst (λ (served : Served). AreAnswered (ended bytes) served b.served s t) new.served
-      (subst (λ (waits : List ℕ). AreAnswered (ended (waits ++ bytes)) a.served b.served s t) new.pending p.answered)
+      subst (λ (served : Served). AreAnswered (lines_ended bytes) served b.served s t) new.served
+      (subst (λ (waits : List ℕ). AreAnswered (lines_ended (waits ++ bytes)) a.served b.served s t) new.pending p.answered)
 
   waiting_new : (a b : Session) (s t : SinkSeen) (bytes : List ℕ) → IsNew (asked_for words) a → AreTaken bytes a b s t → b.pending.items ≡ unended bytes
   waiting_new a b s t bytes new p = p.waiting ∙ ap (λ waits. unended (waits ++ bytes)) new.pending
@@ -133,7 +133,7 @@ module _ (words : List (List ℕ)) (is_taken : are_taken words ≡ true) where
             short = p.within;
             follows = (
               end,
-              FollowsInTo-append (served_with words) b.session.served end (ended read) (last_line (unended read)) lines.written last.written
+              FollowsInTo-append (served_with words) b.session.served end (lines_ended read) (last_line (unended read)) lines.written last.written
                   lines.follows last.follows,
             );
             faultless = record { source = p.source.faults; sink = sink.faults };
@@ -194,7 +194,7 @@ module _ (words : List (List ℕ)) (is_taken : are_taken words ≡ true) where
 
   ran_unanswered : (why : Unanswered) (q r : SourceSeen) (s t : SinkSeen) (read : List ℕ) (lines : List (List ℕ))
       → length read ≤ input_limit + 1 → Consumes q.left r.left read → r.faults ≡ q.faults → IsCounted q.reads r.reads (length read + 1)
-      → (lines ≡ ended (take input_limit read)) ⊎ (IsAtEnd r.left × (length read ≤ input_limit) × (lines ≡ lines_of read))
+      → (lines ≡ lines_ended (take input_limit read)) ⊎ (IsAtEnd r.left × (length read ≤ input_limit) × (lines ≡ lines_of read))
       → AreUnanswered why lines (served_with words) s t → Ran (unanswered_status why) read q r s t
   unfolding Ends
   ran_unanswered unanswered.WriteFault q r s t read lines bounded consumes faults reads may p = (
@@ -227,10 +227,10 @@ module _ (words : List (List ℕ)) (is_taken : are_taken words ≡ true) where
       → Ran (unanswered_status why) read a.source b.source a.sink b.sink
   Ran-unanswered why a b read new p =
       let may = take input_limit read in
-      let lines : AreUnanswered why (ended may) (served_with words) a.sink b.sink =
-      subst (λ (served : Served). AreUnanswered why (ended may) served a.sink b.sink) new.served
-      (subst (λ (waits : List ℕ). AreUnanswered why (ended (waits ++ may)) a.session.served a.sink b.sink) new.pending p.unanswered) in
-      ran_unanswered why a.source b.source a.sink b.sink read (ended may) p.within p.source.consumes p.source.faults
+      let lines : AreUnanswered why (lines_ended may) (served_with words) a.sink b.sink =
+      subst (λ (served : Served). AreUnanswered why (lines_ended may) served a.sink b.sink) new.served
+      (subst (λ (waits : List ℕ). AreUnanswered why (lines_ended (waits ++ may)) a.session.served a.sink b.sink) new.pending p.unanswered) in
+      ran_unanswered why a.source b.source a.sink b.sink read (lines_ended may) p.within p.source.consumes p.source.faults
       (IsCounted-within a.source.reads b.source.reads (length read) (length read + 1) (omega arith) p.source.reads)
       (inl refl) lines
 
@@ -245,7 +245,7 @@ module _ (words : List (List ℕ)) (is_taken : are_taken words ≡ true) where
       (waiting_new a.session b.session a.sink b.sink read new p.taken) q in
       ran_unanswered why a.source b.source a.sink t read (lines_of read) (omega (arith, p.within)) p.source.consumes p.source.faults p.source.reads
       (inr (p.source.at_end, p.within, refl))
-      (AreUnanswered-append why (served_with words) b.session.served a.sink b.sink t (ended read) (last_line (unended read)) lines last)
+      (AreUnanswered-append why (served_with words) b.session.served a.sink b.sink t (lines_ended read) (last_line (unended read)) lines last)
 
   stopped : (why : Stop) (a b : Moment) → IsNew (asked_for words) a.session → why ≢ stop.End → HasStopped why input_limit a b
       → (read written : List ℕ) × IsServedRun (stop_status why) (worded words read written a.source b.source a.sink b.sink)

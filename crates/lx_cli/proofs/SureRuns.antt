@@ -4,12 +4,12 @@ use Rattle.lx_io.specs.Devices.{HasRisen}
 use Rattle.lx_cli.specs.declared.status.Status.{Status}
 use Rattle.lx_cli.specs.declared.status.Status.TheVariants.{ReadFault}
 use Rattle.lx_editor.specs.Follows.{Follows}
-use Rattle.lx_layers.specs.Served.{FollowsIn}
+use Rattle.lx_serving.specs.Served.{FollowsIn}
 use Rattle.lx_cli.specs.Run.{begun_with, served_with, Seen, Ends, IsAnsweredRun}
 use Rattle.lx_cli.specs.Generating.{GeneratedEnds, IsGeneratedRun, RunsAsAsked, RunsBy, mode_for}
-use Rattle.lx_words.specs.declared.options.Generated.{Generated}
-use Rattle.lx_words.specs.declared.options.Mode.{Mode}
-use Rattle.lx_words.specs.declared.options.Mode.TheVariants.{Plain, Hub, Outline, Generate}
+use Rattle.lx_arguments.specs.declared.options.Generated.{Generated}
+use Rattle.lx_arguments.specs.declared.options.Mode.{Mode}
+use Rattle.lx_arguments.specs.declared.options.Mode.TheVariants.{Plain, Hub, Outline, Generate}
 
 HasRisen-none : (old new : ℕ) → old ≡ 0 → new ≡ 0 → HasRisen old new → ⊥
 HasRisen-none old new before after risen = elim risen [ inl p ↦ omega arith | inr p ↦ omega arith ]

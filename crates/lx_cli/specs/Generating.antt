@@ -2,11 +2,11 @@
 -- session that is generated.
 use Rattle.std.specs.Prelude.{◌≡◌, ◌<◌, ◌⊎◌, ℕ, ◌+◌, List, [], ◌∷◌, ◌++◌, length, if◌then◌else◌}
 use Rattle.lx_io.specs.Devices.{Appends, HasRisen, IsCounted, last_count}
-use Rattle.lx_words.specs.declared.options.Generated.{Generated}
-use Rattle.lx_words.specs.declared.options.Mode.{Mode}
-use Rattle.lx_words.specs.declared.options.Mode.TheVariants.{Plain, Hub, Outline, Generate}
-use Rattle.lx_words.specs.Words.{are_taken, asked_for, delay_in}
-use Rattle.lx_generator.specs.Sessions.{IsTold}
+use Rattle.lx_arguments.specs.declared.options.Generated.{Generated}
+use Rattle.lx_arguments.specs.declared.options.Mode.{Mode}
+use Rattle.lx_arguments.specs.declared.options.Mode.TheVariants.{Plain, Hub, Outline, Generate}
+use Rattle.lx_arguments.specs.Arguments.{are_taken, asked_for, delay_asked}
+use Rattle.lx_generator.specs.Sessions.{IsSummary}
 use Rattle.lx_cli.specs.Run.{Seen, IsFaultless, IsRun, IsServedRun}
 use Rattle.lx_cli.specs.declared.status.Status.{Status}
 use Rattle.lx_cli.specs.declared.status.Status.TheVariants.{Done, Usage, ReadFault, WriteFault, Memory, InputTooLong}
@@ -14,7 +14,7 @@ use Rattle.lx_cli.specs.declared.status.Status.TheVariants.{Done, Usage, ReadFau
 -- A session with the delay of the arguments was run, and its summary and a line end are written.
 pub record IsToldWhole (session : Generated) (run : Seen) : Type 0 where
   pub summary : List ℕ
-  pub told : IsTold session (delay_in run.words) summary
+  pub told : IsSummary session (delay_asked run.words) summary
   pub written : run.written ≡ summary ++ 10 ∷ []
   pub faultless : IsFaultless run
 
@@ -22,7 +22,7 @@ pub record IsToldWhole (session : Generated) (run : Seen) : Type 0 where
 pub record IsToldInPart (session : Generated) (run : Seen) : Type 0 where
   pub summary : List ℕ
   pub later : List ℕ
-  pub told : IsTold session (delay_in run.words) summary
+  pub told : IsSummary session (delay_asked run.words) summary
   pub front : run.written ++ later ≡ summary ++ 10 ∷ []
   pub sink : HasRisen run.sink_before.faults run.sink_after.faults
 

@@ -7,9 +7,9 @@ longer byte [] = []
 longer byte (line ∷ lines) = (byte ∷ line) ∷ lines
 
 -- the lines that a line end, byte 10, has ended, without it
-unfoldable pub ended : List ℕ → List (List ℕ)
-ended [] = []
-ended (byte ∷ bytes) = if byte == 10 then [] ∷ ended bytes else longer byte (ended bytes)
+unfoldable pub lines_ended : List ℕ → List (List ℕ)
+lines_ended [] = []
+lines_ended (byte ∷ bytes) = if byte == 10 then [] ∷ lines_ended bytes else longer byte (lines_ended bytes)
 
 -- the byte in front of what isn't ended, if no line is ended after it
 abbrev pub with_front : List (List ℕ) → ℕ → List ℕ → List ℕ
@@ -19,7 +19,7 @@ with_front (line ∷ lines) byte rest = rest
 -- what is after the last line end
 unfoldable pub unended : List ℕ → List ℕ
 unended [] = []
-unended (byte ∷ bytes) = if byte == 10 then unended bytes else with_front (ended bytes) byte (unended bytes)
+unended (byte ∷ bytes) = if byte == 10 then unended bytes else with_front (lines_ended bytes) byte (unended bytes)
 
 -- a last line, if it isn't empty
 abbrev pub last_line : List ℕ → List (List ℕ)
@@ -28,4 +28,4 @@ last_line (byte ∷ bytes) = (byte ∷ bytes) ∷ []
 
 -- all lines of the input
 abbrev pub lines_of : List ℕ → List (List ℕ)
-lines_of bytes = ended bytes ++ last_line (unended bytes)
+lines_of bytes = lines_ended bytes ++ last_line (unended bytes)

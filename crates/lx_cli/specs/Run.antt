@@ -3,16 +3,16 @@ use Rattle.std.specs.Prelude.{◌≡◌, ℕ, true, false, ◌+◌, ◌<◌, ◌
 use Rattle.lx_io.specs.Devices.{Consumes, Appends, IsAtEnd, HasRisen, IsCounted, last_count}
 use Rattle.lx_editor.specs.Editor.{Editor, new_editor}
 use Rattle.lx_editor.specs.Follows.{Follows}
-use Rattle.lx_words.specs.Words.{are_taken, asked_for, view_in, delay_in}
-use Rattle.lx_layers.specs.Served.{Served, FollowsIn, new_served}
-use Rattle.lx_cli.specs.Lines.{ended, lines_of}
+use Rattle.lx_arguments.specs.Arguments.{are_taken, asked_for, asks_view, delay_asked}
+use Rattle.lx_serving.specs.Served.{Served, FollowsIn, new_served}
+use Rattle.lx_cli.specs.Lines.{lines_ended, lines_of}
 use Rattle.lx_cli.specs.declared.status.Status.{Status}
 use Rattle.lx_cli.specs.declared.status.Status.TheVariants.{Done, Usage, ReadFault, WriteFault, Memory, InputTooLong}
 
 -- the editor that a run begins with: its replies to commits include the view where the arguments ask for it, and its
 -- history has the delay that they ask for
 abbrev pub begun_with : List (List ℕ) → Editor
-begun_with words = new_editor (view_in words) (delay_in words)
+begun_with words = new_editor (asks_view words) (delay_asked words)
 
 -- the editor that a run begins with, and what is beside it in the mode that the arguments ask for
 abbrev pub served_with : List (List ℕ) → Served
@@ -75,7 +75,7 @@ pub record IsFrontOfReplies (AreReplies : List (List ℕ) → List ℕ → Type 
 -- after the last line end only where the input was read to its end and is within the limit.
 abbrev pub MayAnswer : Seen → List (List ℕ) → Type 0
 MayAnswer run lines =
-    (lines ≡ ended (take input_limit run.read))
+    (lines ≡ lines_ended (take input_limit run.read))
     ⊎ (IsAtEnd run.source_after.left × (length run.read ≤ input_limit) × (lines ≡ lines_of run.read))
 
 -- The input was read to its end, and all of its lines are answered.
@@ -98,7 +98,7 @@ pub record IsUsage (run : Seen) : Type 0 where
 pub record IsReadFault (AreReplies : List (List ℕ) → List ℕ → Type 0) (run : Seen) : Type 0 where
   pub taken : are_taken run.words ≡ true
   pub short : length run.read ≤ input_limit
-  pub follows : AreReplies (ended run.read) run.written
+  pub follows : AreReplies (lines_ended run.read) run.written
   pub source : HasRisen run.source_before.faults run.source_after.faults
   pub sink : run.sink_after.faults ≡ run.sink_before.faults
 
@@ -124,7 +124,7 @@ pub record IsOutOfMemory (AreReplies : List (List ℕ) → List ℕ → Type 0) 
 pub record IsTooLong (AreReplies : List (List ℕ) → List ℕ → Type 0) (run : Seen) : Type 0 where
   pub taken : are_taken run.words ≡ true
   pub long : length run.read ≡ input_limit + 1
-  pub follows : AreReplies (ended (take input_limit run.read)) run.written
+  pub follows : AreReplies (lines_ended (take input_limit run.read)) run.written
   pub faultless : IsFaultless run
 
 -- what each status says of a run

@@ -1,9 +1,9 @@
 -- What the parts of a run do.
-use Rattle.std.specs.Prelude.{◌≡◌, ℕ, ◌+◌, ◌<◌, ◌≤◌, ◌==◌, if◌then◌else◌, List, [], ◌∷◌, ◌++◌, length, take, Result, Ok, Err}
+use Rattle.std.specs.Prelude.{◌≡◌, ℕ, ◌+◌, ◌<◌, ◌≤◌, List, [], ◌++◌, length, take, Result, Ok, Err}
 use Rattle.lx_io.specs.Devices.{Consumes, Appends, IsAtEnd, HasRisen, IsCounted}
 use Rattle.lx_io.specs.declared.fault.Failed.{Failed}
-use Rattle.lx_words.specs.declared.options.Options.{Options}
-use Rattle.lx_layers.specs.Served.{Served, FollowsIn, FollowsInTo, new_served, spent}
+use Rattle.lx_arguments.specs.declared.options.Options.{Options}
+use Rattle.lx_serving.specs.Served.{Served, FollowsIn, FollowsInTo, new_served, spent}
 use Rattle.lx_cli.specs.declared.session.Session.{Session}
 use Rattle.lx_cli.specs.declared.session.Unanswered.{Unanswered}
 use Rattle.lx_cli.specs.declared.session.Unanswered.TheVariants as unanswered
@@ -11,7 +11,7 @@ use Rattle.lx_cli.specs.declared.reading.Stop.{Stop}
 use Rattle.lx_cli.specs.declared.reading.Stop.TheVariants.{End, ReadFault, WriteFault, Memory, TooLong}
 use Rattle.lx_cli.specs.declared.status.Status.{Status}
 use Rattle.lx_cli.specs.declared.status.Status.TheVariants as status
-use Rattle.lx_cli.specs.Lines.{ended, unended}
+use Rattle.lx_cli.specs.Lines.{lines_ended, unended}
 use Rattle.lx_cli.specs.Run.{SourceSeen, SinkSeen, IsFrontOfReplies}
 
 -- All of these bytes went to the sink, and each write took one of them.
@@ -67,14 +67,6 @@ abbrev pub LinesEnd : Result Unit Unanswered → List (List ℕ) → Served → 
 LinesEnd (Ok done) lines old new sink_old sink_new = AreAnswered lines old new sink_old sink_new
 LinesEnd (Err why) lines old new sink_old sink_new = AreUnanswered why lines old sink_old sink_new
 
--- the line that a byte ends, after the bytes that wait
-abbrev pub ended_by : ℕ → List ℕ → List (List ℕ)
-ended_by byte waiting = if byte == 10 then waiting ∷ [] else []
-
--- what waits after the byte
-abbrev pub waiting_after : ℕ → List ℕ → List ℕ
-waiting_after byte waiting = if byte == 10 then [] else waiting ++ byte ∷ []
-
 -- a session of a run that begins, with these options
 pub record IsNew (options : Options) (session : Session) : Type 0 where
   pub served : session.served ≡ new_served options
@@ -82,19 +74,19 @@ pub record IsNew (options : Options) (session : Session) : Type 0 where
 
 -- no line end is among these bytes
 pub record IsUnended (bytes : List ℕ) : Type 0 where
-  pub none : ended bytes ≡ []
+  pub none : lines_ended bytes ≡ []
   pub all : unended bytes ≡ bytes
 
 -- The bytes came after those that waited: the lines that they ended are answered, and the rest waits.
 pub record AreTaken (bytes : List ℕ) (old new : Session) (sink_old sink_new : SinkSeen) : Type 0 where
-  pub answered : AreAnswered (ended (old.pending.items ++ bytes)) old.served new.served sink_old sink_new
+  pub answered : AreAnswered (lines_ended (old.pending.items ++ bytes)) old.served new.served sink_old sink_new
   pub waiting : new.pending.items ≡ unended (old.pending.items ++ bytes)
 
 -- what comes of bytes after those that wait
 abbrev pub BytesEnd : Result Unit Unanswered → List ℕ → Session → Session → SinkSeen → SinkSeen → Type 0
 BytesEnd (Ok done) bytes old new sink_old sink_new = AreTaken bytes old new sink_old sink_new
 BytesEnd (Err why) bytes old new sink_old sink_new =
-    AreUnanswered why (ended (old.pending.items ++ bytes)) old.served sink_old sink_new
+    AreUnanswered why (lines_ended (old.pending.items ++ bytes)) old.served sink_old sink_new
 
 -- These bytes were read, and each read gave one of them.
 pub record AreRead (bytes : List ℕ) (old new : SourceSeen) : Type 0 where
@@ -144,7 +136,7 @@ pub record IsUnanswered (why : Unanswered) (may_come : ℕ) (bytes : List ℕ) (
   pub within : length bytes ≤ may_come + 1
   pub source : AreRead bytes old.source new.source
   pub unanswered :
-      AreUnanswered why (ended (old.session.pending.items ++ take may_come bytes)) old.session.served old.sink new.sink
+      AreUnanswered why (lines_ended (old.session.pending.items ++ take may_come bytes)) old.session.served old.sink new.sink
 
 -- One byte more than may come was read, and those before it are taken.
 pub record IsPastLimit (may_come : ℕ) (bytes : List ℕ) (old new : Moment) : Type 0 where

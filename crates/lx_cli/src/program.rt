@@ -1,6 +1,6 @@
 ghost use Rattle.std.specs.Prelude.{◌≡◌, ◌<◌, ◌≤◌, true, ℕ, List, [], length, map, string_bytes};
-ghost use Rattle.lx_words.specs.Words.{are_taken, asked_for, delay_in};
-ghost use Rattle.lx_words.specs.declared.options.Options.{Options as OptionsOf};
+ghost use Rattle.lx_arguments.specs.Arguments.{are_taken, asked_for, delay_asked};
+ghost use Rattle.lx_arguments.specs.declared.options.Options.{Options as OptionsOf};
 ghost use Rattle.lx_cli.specs.Run.{SourceSeen, source_seen, sink_seen, IsServedRun};
 ghost use Rattle.lx_cli.specs.Generating.{IsGeneratedRun, RunsAsAsked};
 ghost use Rattle.lx_cli.specs.Steps.{IsNew};
@@ -9,10 +9,10 @@ use crate::reading::{Stop, new_buffer, read_lines};
 use crate::session::{LINE_END, Session};
 use crate::status::Status;
 use crate::writing::write_all;
+use lx_arguments::{Generated, Mode, Options, Refused, options_of};
 use lx_generator::tell_session;
 use lx_io::{Failed, Sink, Source};
 use lx_node::NoMemory;
-use lx_words::{Generated, Mode, Options, Refused, options_of};
 use std::alloc::Global;
 
 /// Runs the program: answers each line of the source into the sink. The arguments are those of the command line after
@@ -54,7 +54,7 @@ pub fn run<S: Source, K: Sink>(
 /// Runs a session that is generated, and writes its summary and a line end.
 fn generate<K: Sink>(alloc: Global, session: Generated, delay: u32, sink: &mut K) -> Status
     requires some { 1 ≤ session.lines }
-    ensures { (words : List (List ℕ)) (source : SourceSeen) → delay ≡ delay_in words → (written : List ℕ) × IsGeneratedRun result session (record {
+    ensures { (words : List (List ℕ)) (source : SourceSeen) → delay ≡ delay_asked words → (written : List ℕ) × IsGeneratedRun result session (record {
       words = words;
       read = [];
       written = written;

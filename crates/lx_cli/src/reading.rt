@@ -1,6 +1,6 @@
 ghost use Rattle.std.specs.Prelude.{◌+◌, ◌<◌, ◌≤◌, length, vec_len, IfOk, IfErr};
 ghost use Rattle.lx_node.specs.Limits.{last_u32};
-ghost use Rattle.lx_layers.specs.Served.{spent};
+ghost use Rattle.lx_serving.specs.Served.{spent};
 ghost use Rattle.lx_cli.specs.Run.{input_limit, source_seen, sink_seen};
 ghost use Rattle.lx_cli.specs.Steps.{IsUnended, GoesOnBy, HasStopped, moment};
 

@@ -1,10 +1,11 @@
 use crate::status::Status;
 use crate::writing::write_all;
+use lx_arguments::Options;
 use lx_io::{Failed, Sink};
-use lx_layers::Served;
 use lx_node::NoMemory;
+use lx_serving::Served;
 use lx_value::Room;
-use lx_words::Options;
+use memchr::memchr;
 use std::alloc::Global;
 
 /// The byte that ends a line, and a reply.
@@ -45,12 +46,12 @@ pub(crate) struct Session {
 }
 
 impl Session {
-    ghost use Rattle.std.specs.Prelude.{◌≡◌, ◌+◌, ◌*◌, ◌<◌, [], ◌∷◌, length, IfOk, OnOk};
+    ghost use Rattle.std.specs.Prelude.{◌≡◌, ◌+◌, ◌*◌, ◌<◌, [], ◌∷◌, ◌++◌, length, IfOk, OnOk};
     ghost use Rattle.lx_node.specs.Limits.{last_u32};
-    ghost use Rattle.lx_layers.specs.Served.{spent};
+    ghost use Rattle.lx_serving.specs.Served.{spent};
     ghost use Rattle.lx_cli.specs.Lines.{last_line};
     ghost use Rattle.lx_cli.specs.Run.{sink_seen};
-    ghost use Rattle.lx_cli.specs.Steps.{IsNew, LinesEnd, BytesEnd, IsUnended, ended_by, waiting_after};
+    ghost use Rattle.lx_cli.specs.Steps.{IsNew, LinesEnd, BytesEnd, IsUnended};
 
     /// A new editor with what these options ask for, and no bytes.
     pub(crate) fn new(alloc: Global, options: Options) -> Result<Session, NoMemory>
@@ -99,19 +100,16 @@ impl Session {
         }
     }
 
-    /// Takes a byte after those that wait.
-    fn take_byte<K: Sink>(&mut self, byte: u8, sink: &mut K) -> Result<(), Unanswered>
+    /// Answers the line that these bytes end, after those that wait.
+    fn end_line_with<K: Sink>(&mut self, bytes: &[u8], sink: &mut K) -> Result<(), Unanswered>
         requires { spent self.old.served < last_u32 }
-        ensures lines { LinesEnd result (ended_by byte self.old.pending.items) self.old.served self.new.served
+        ensures lines { LinesEnd result ((self.old.pending.items ++ bytes.now) ∷ []) self.old.served self.new.served
             (sink_seen K.taken K.faults K.writes sink.old)
             (sink_seen K.taken K.faults K.writes sink.new) }
-        ensures waiting { OnOk result (self.new.pending.items ≡ waiting_after byte self.old.pending.items) }
+        ensures emptied { OnOk result (self.new.pending.items ≡ []) }
     {
-        if byte == LINE_END {
-            return self.end_line(sink);
-        }
-        match self.pending.push(byte) {
-            Ok(()) => Ok(()),
+        match self.pending.extend_from_slice(bytes) {
+            Ok(()) => self.end_line(sink),
             Err(_) => Err(Unanswered::Memory),
         }
     }
@@ -128,13 +126,18 @@ impl Session {
             (sink_seen K.taken K.faults K.writes sink.old)
             (sink_seen K.taken K.faults K.writes sink.new) }
     {
-        for byte in piece {
-            match self.take_byte(*byte, sink) {
+        let mut rest = piece;
+        'lines: while let Some(end) = memchr(LINE_END, rest) {
+            match self.end_line_with(&rest[..end], sink) {
                 Ok(()) => {}
                 Err(unanswered) => return Err(unanswered),
             }
+            rest = &rest[end + 1..];
         }
-        Ok(())
+        match self.pending.extend_from_slice(rest) {
+            Ok(()) => Ok(()),
+            Err(_) => Err(Unanswered::Memory),
+        }
     }
 
     /// Answers what waits at the end of the input, if that is anything.

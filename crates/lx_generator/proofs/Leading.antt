@@ -8,7 +8,7 @@ use Rattle.lx_editor.specs.Dispatched.{IsDispatched}
 use Rattle.lx_editor.specs.Editor.{Editor}
 use Rattle.lx_editor.specs.Gathering.{recording}
 use Rattle.lx_generator.specs.declared.tally.Tally.{Tally}
-use Rattle.lx_generator.specs.Sessions.{LeadTo, command_of, commands_behind, counted, next_number}
+use Rattle.lx_generator.specs.Sessions.{LeadTo, command_drawn, commands_behind, counted, next_number}
 
 -- so many commands lead from one editor and tally to another
 abbrev Leads : ℕ → ℕ → Editor → Tally → Editor → Tally → Type 0
@@ -20,7 +20,7 @@ pub record ComeTo (count x : ℕ) (old : Editor) (t : Tally) (left y : ℕ) (mid
 
 one_more_from : (count x : ℕ) (old : Editor) (t : Tally) (line y : ℕ) (mid next : Editor) (u : Tally) (outcome : Outcome) (handled : Bool)
     → line < count → ComeTo count x old t (count - line) y mid u
-    → IsDispatched mid (command_of (next_number y)) (recording untagged 0) outcome handled next
+    → IsDispatched mid (command_drawn (next_number y)) (recording untagged 0) outcome handled next
     → ComeTo count x old t (count - (line + 1)) (next_number y) next (counted outcome u)
 one_more_from count x old t line y mid next u outcome handled less comes dispatched =
     let left : suc (count - (line + 1)) ≡ count - line = omega arith in
@@ -30,14 +30,14 @@ one_more_from count x old t line y mid next u outcome handled less comes dispatc
     }
 
 pub one_more : (count x : ℕ) (old : Editor) (t : Tally) (line y z : ℕ) (mid next : Editor) (u v : Tally) (command : Command) (tags : Tags)
-    (outcome : Outcome) (handled : Bool) → line < count → ComeTo count x old t (count - line) y mid u → z ≡ next_number y → command ≡ command_of z
+    (outcome : Outcome) (handled : Bool) → line < count → ComeTo count x old t (count - line) y mid u → z ≡ next_number y → command ≡ command_drawn z
     → tags ≡ untagged → IsDispatched mid command (recording tags 0) outcome handled next → v ≡ counted outcome u
     → ComeTo count x old t (count - (line + 1)) z next v
 one_more count x old t line y z mid next u v command tags outcome handled less comes number command_is none dispatched tally =
     let plain : IsDispatched mid command (recording untagged 0) outcome handled next =
     subst (λ (g : Tags). IsDispatched mid command (recording g 0) outcome handled next) none dispatched in
-    let same : IsDispatched mid (command_of (next_number y)) (recording untagged 0) outcome handled next =
-    subst (λ (c : Command). IsDispatched mid c (recording untagged 0) outcome handled next) (command_is ∙ ap command_of number) plain in
+    let same : IsDispatched mid (command_drawn (next_number y)) (recording untagged 0) outcome handled next =
+    subst (λ (c : Command). IsDispatched mid c (recording untagged 0) outcome handled next) (command_is ∙ ap command_drawn number) plain in
     let more = one_more_from count x old t line y mid next u outcome handled less comes same in
     subst (λ (n : ℕ). ComeTo count x old t (count - (line + 1)) n next v) (sym number)
     (subst (λ (w : Tally). ComeTo count x old t (count - (line + 1)) (next_number y) next w) (sym tally) more)

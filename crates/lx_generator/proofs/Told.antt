@@ -19,10 +19,10 @@ use Rattle.lx_draft.specs.Freezing.{tree_characters}
 use Rattle.lx_editor.specs.Editor.{Editor, new_editor}
 use Rattle.lx_editor.specs.Standing.{IsState}
 use Rattle.lx_editor.proofs.Limits.{few_characters, all_in_tree}
-use Rattle.lx_words.specs.declared.options.Generated.{Generated}
+use Rattle.lx_arguments.specs.declared.options.Generated.{Generated}
 use Rattle.lx_generator.specs.declared.summary.Summary.{Summary}
 use Rattle.lx_generator.specs.declared.tally.Tally.{Tally}
-use Rattle.lx_generator.specs.Sessions.{IsSession, IsTold, summary_of, view_text}
+use Rattle.lx_generator.specs.Sessions.{IsSession, IsSummary, summary_of, view_text}
 use Rattle.lx_generator.specs.Summaries.{summary_data, summary_text}
 
 -- ---- characters
@@ -77,8 +77,8 @@ unfolding summary_text
 text_of_summary s d bytes is written = written (ap has_float is ∙ has_no_float s) ∙ ap compact_text is
 
 pub is_told : (session : Generated) (delay : ℕ) (old last : Editor) (t : Tally) (summary : Summary) (bytes : List ℕ) → old ≡ new_editor false delay
-    → IsSession session old last t → summary ≡ summary_of session.lines last t → bytes ≡ summary_text summary → IsTold session delay bytes
-unfolding IsTold
+    → IsSession session old last t → summary ≡ summary_of session.lines last t → bytes ≡ summary_text summary → IsSummary session delay bytes
+unfolding IsSummary
 is_told session delay old last t summary bytes new ran summary_are bytes_are = (
   last,
   t,

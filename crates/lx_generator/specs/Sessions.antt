@@ -20,7 +20,7 @@ use Rattle.lx_editor.specs.Dispatched.{IsDispatched}
 use Rattle.lx_editor.specs.Editor.{Editor, new_editor}
 use Rattle.lx_editor.specs.Gathering.{recording}
 use Rattle.lx_editor.specs.Updated.{IsUpdated}
-use Rattle.lx_words.specs.declared.options.Generated.{Generated}
+use Rattle.lx_arguments.specs.declared.options.Generated.{Generated}
 use Rattle.lx_generator.specs.declared.summary.Summary.{Summary}
 use Rattle.lx_generator.specs.declared.tally.Tally.{Tally}
 use Rattle.lx_generator.specs.Summaries.{summary_text}
@@ -40,8 +40,8 @@ unfoldable pub next_number : ℕ → ℕ
 next_number x = (1664525 * x + 1013904223) % 4294967296
 
 -- the command of this name, to which that is sent
-abbrev pub command_with : List ℕ → Payload → Command
-command_with name sent = record { name = name; payload = sent }
+abbrev pub named_command : List ℕ → Payload → Command
+named_command name sent = record { name = name; payload = sent }
 
 -- the letter of `a` to `z` with this number, from 0, as a text
 abbrev pub letter : ℕ → List ℕ
@@ -50,20 +50,20 @@ letter n = (97 + n) ∷ []
 -- the command that the upper half of a line's number gives
 abbrev pub command_by : ℕ → Command
 command_by half =
-    if half % 8 == 0 then command_with (codes "insert-paragraph") Nothing else
-    if half % 8 == 1 then command_with (codes "format-text") (Text (codes "bold")) else
-    if half % 8 == 2 then command_with (codes "delete-character") (Text (codes "back")) else
-    if half % 8 == 3 then command_with (codes "undo") Nothing else
-    command_with (codes "insert-text") (Text (letter ((half / 8) % 26)))
+    if half % 8 == 0 then named_command (codes "insert-paragraph") Nothing else
+    if half % 8 == 1 then named_command (codes "format-text") (Text (codes "bold")) else
+    if half % 8 == 2 then named_command (codes "delete-character") (Text (codes "back")) else
+    if half % 8 == 3 then named_command (codes "undo") Nothing else
+    named_command (codes "insert-text") (Text (letter ((half / 8) % 26)))
 
 -- the command of a line, by its number
-unfoldable pub command_of : ℕ → Command
-command_of x = command_by (x / 65536)
+unfoldable pub command_drawn : ℕ → Command
+command_drawn x = command_by (x / 65536)
 
 -- the commands of so many lines that follow the line with this number
 abbrev pub commands_behind : ℕ → ℕ → List Command
 commands_behind zero x = []
-commands_behind (suc more) x = command_of (next_number x) ∷ commands_behind more (next_number x)
+commands_behind (suc more) x = command_drawn (next_number x) ∷ commands_behind more (next_number x)
 
 -- ---- the session
 
@@ -115,6 +115,6 @@ summary_of lines e t = record {
 }
 
 -- the bytes that a session on a new editor with this delay may be summed up in
-unfoldable pub IsTold : Generated → ℕ → List ℕ → Type 0
-IsTold session delay bytes = (last : Editor) × (tally : Tally) × IsSession session (new_editor false delay) last tally
+unfoldable pub IsSummary : Generated → ℕ → List ℕ → Type 0
+IsSummary session delay bytes = (last : Editor) × (tally : Tally) × IsSession session (new_editor false delay) last tally
     × (bytes ≡ summary_text (summary_of session.lines last tally))

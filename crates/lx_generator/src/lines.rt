@@ -44,9 +44,9 @@ pub(crate) fn first_steps(alloc: Global) -> Result<Vec<Step>, NoMemory>
 }
 
 /// The command of the line with this number.
-#[tactic(auto, unfolding(crate::specs::Sessions::command_of))]
-pub(crate) fn command_of(alloc: Global, number: u32) -> Result<Command, NoMemory>
-    ensures { IfOk result (λ command. command ≡ sessions.command_of number) }
+#[tactic(auto, unfolding(crate::specs::Sessions::command_drawn))]
+pub(crate) fn command_drawn(alloc: Global, number: u32) -> Result<Command, NoMemory>
+    ensures { IfOk result (λ command. command ≡ sessions.command_drawn number) }
 {
     command_by(alloc, number / 65_536)
 }
@@ -56,10 +56,10 @@ fn command_by(alloc: Global, half: u32) -> Result<Command, NoMemory>
 {
     match half % 8 {
         0 => command_alone(alloc, "insert-paragraph"),
-        1 => command_with(alloc, "format-text", Txt::new(alloc, "bold")?),
-        2 => command_with(alloc, "delete-character", Txt::new(alloc, "back")?),
+        1 => named_command(alloc, "format-text", Txt::new(alloc, "bold")?),
+        2 => named_command(alloc, "delete-character", Txt::new(alloc, "back")?),
         3 => command_alone(alloc, "undo"),
-        _ => command_with(alloc, "insert-text", letter(alloc, (half / 8) % 26)?),
+        _ => named_command(alloc, "insert-text", letter(alloc, (half / 8) % 26)?),
     }
 }
 
@@ -73,7 +73,7 @@ fn command_alone(alloc: Global, name: &str) -> Result<Command, NoMemory>
 }
 
 /// A command that a text is sent with.
-fn command_with(alloc: Global, name: &str, text: Txt) -> Result<Command, NoMemory>
+fn named_command(alloc: Global, name: &str, text: Txt) -> Result<Command, NoMemory>
     ensures { IfOk result (λ command. command ≡ record { name = chars name.now; payload = Payload.Text text }) }
 {
     let name = Txt::new(alloc, name)?;

@@ -2,15 +2,15 @@
 
 ghost use Rattle.std.specs.Prelude.{◌≡◌, ◌+◌, ◌<◌, ◌≤◌, IfOk, OnOk};
 ghost use Rattle.lx_node.specs.Limits.{last_u32};
-ghost use Rattle.lx_generator.specs.Sessions.{IsSession, IsTold, LeadTo, commands_behind, summary_of};
+ghost use Rattle.lx_generator.specs.Sessions.{IsSession, IsSummary, LeadTo, commands_behind, summary_of};
 
-use crate::lines::{command_of, first_steps, next_number};
+use crate::lines::{command_drawn, first_steps, next_number};
 use crate::summary::{Summary, write_summary};
 use crate::tally::Tally;
+use lx_arguments::Generated;
 use lx_editor::Editor;
 use lx_node::NoMemory;
 use lx_step::Tags;
-use lx_words::Generated;
 use std::alloc::Global;
 
 /// Runs the session on a new editor whose history has this delay, in milliseconds, and sums it up: the bytes of a JSON
@@ -19,7 +19,7 @@ use std::alloc::Global;
 /// time 0.
 pub fn tell_session(alloc: Global, session: Generated, delay: u64) -> Result<Vec<u8>, NoMemory>
     requires some { 1 ≤ session.lines }
-    ensures { IfOk result (λ bytes. IsTold session delay bytes.items) }
+    ensures { IfOk result (λ bytes. IsSummary session delay bytes.items) }
 {
     let mut editor = Editor::new(alloc, false, delay)?;
     let tally = run_lines(alloc, session, &mut editor)?;
@@ -57,7 +57,7 @@ fn dispatch_all(
     let mut current = number;
     for line in 0..count {
         current = next_number(current);
-        let command = command_of(alloc, current)?;
+        let command = command_drawn(alloc, current)?;
         let (_handled, outcome) = editor.dispatch(alloc, &command, Tags::none(), 0)?;
         tally.count(&outcome);
     }

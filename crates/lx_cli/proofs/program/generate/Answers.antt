@@ -1,6 +1,6 @@
 use Rattle.std.proofs.Common.{[], ◌∷◌, ◌++◌, ◌∙◌, List, ℕ, subst}
-use Rattle.lx_words.specs.Words.{delay_in}
-use Rattle.lx_generator.specs.Sessions.{IsTold}
+use Rattle.lx_arguments.specs.Arguments.{delay_asked}
+use Rattle.lx_generator.specs.Sessions.{IsSummary}
 use Rattle.lx_cli.specs.Run.{sink_seen}
 use Rattle.lx_cli.specs.Steps.{AreWritten, IsPieceCutOff}
 use Rattle.lx_cli.proofs.Generating.{IsGeneratedRun-cut_off, IsGeneratedRun-done, IsGeneratedRun-none}
@@ -18,7 +18,7 @@ pub returns-in-Ok-write_all : goal.returns-in-Ok-write_all
 returns-in-Ok-write_all g c words source is =
     let seen = sink_seen g.K.Sink.taken g.K.Sink.faults g.K.Sink.writes in
     let summary = c.in-Ok.summary.items in
-    let told : IsTold c.args.session (delay_in words) summary = subst (λ (d : ℕ). IsTold c.args.session d summary) is c.in-Ok.ensures in
+    let told : IsSummary c.args.session (delay_asked words) summary = subst (λ (d : ℕ). IsSummary c.args.session d summary) is c.in-Ok.ensures in
     let written : AreWritten (summary ++ 10 ∷ []) (seen c.args.sink.now) (seen c.write_all.new.sink) =
     subst (λ (piece : List ℕ). AreWritten piece (seen c.args.sink.now) (seen c.write_all.new.sink))
     (c.deref.ensures.value ∙ c.in-Ok-push.ensures.items) c.in-Ok-write_all.ensures in
@@ -28,7 +28,7 @@ pub returns : goal.returns
 returns g c words source is =
     let seen = sink_seen g.K.Sink.taken g.K.Sink.faults g.K.Sink.writes in
     let summary = c.in-Ok.summary.items in
-    let told : IsTold c.args.session (delay_in words) summary = subst (λ (d : ℕ). IsTold c.args.session d summary) is c.in-Ok.ensures in
+    let told : IsSummary c.args.session (delay_asked words) summary = subst (λ (d : ℕ). IsSummary c.args.session d summary) is c.in-Ok.ensures in
     let cut : IsPieceCutOff (summary ++ 10 ∷ []) (seen c.args.sink.now) (seen c.write_all.new.sink) =
     subst (λ (piece : List ℕ). IsPieceCutOff piece (seen c.args.sink.now) (seen c.write_all.new.sink))
     (c.deref.ensures.value ∙ c.in-Ok-push.ensures.items) c.in-Err-write_all.ensures in

@@ -1,7 +1,7 @@
 use Rattle.std.proofs.Common.{[], ◌≡◌, ◌∙◌, ap, map, string_bytes, sym}
-use Rattle.lx_words.specs.declared.options.Mode.TheVariants.{Plain, Hub, Outline, Generate}
-use Rattle.lx_words.specs.declared.options.Options.{Options}
-use Rattle.lx_words.specs.Words.{asked_for}
+use Rattle.lx_arguments.specs.declared.options.Mode.TheVariants.{Plain, Hub, Outline, Generate}
+use Rattle.lx_arguments.specs.declared.options.Options.{Options}
+use Rattle.lx_arguments.specs.Arguments.{asked_for}
 use Rattle.lx_editor.specs.Follows.{Follows}
 use Rattle.lx_cli.specs.Run.{begun_with, source_seen, sink_seen}
 use Rattle.lx_cli.proofs.Runs.{IsAnsweredRun-usage, worded}

@@ -1,6 +1,6 @@
 use Rattle.std.proofs.Common.{[], refl, subst}
-use Rattle.lx_words.specs.declared.options.Options.{Options}
-use Rattle.lx_layers.specs.Served.{FollowsIn}
+use Rattle.lx_arguments.specs.declared.options.Options.{Options}
+use Rattle.lx_serving.specs.Served.{FollowsIn}
 use Rattle.lx_cli.specs.Run.{served_with, source_seen, sink_seen}
 use Rattle.lx_cli.specs.Steps.{IsNew}
 use Rattle.lx_cli.proofs.Runs.{IsAnsweredRun-none}

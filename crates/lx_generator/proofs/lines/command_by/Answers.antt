@@ -10,13 +10,13 @@ returns-in-0 c =
 
 pub returns-in_ok-new-in-1 : goal.returns-in_ok-new-in-1
 returns-in_ok-new-in-1 c =
-    as_sent c.command_with.result (codes "format-text") c.in_ok-new-in-1.field-0 (codes "bold") c.args.half refl
-    (c.in_ok-new-in-1.ensures ∙ as_bytes (codes "bold") refl) (bold c.args.half c.in-1.is) c.command_with.ensures
+    as_sent c.named_command.result (codes "format-text") c.in_ok-new-in-1.field-0 (codes "bold") c.args.half refl
+    (c.in_ok-new-in-1.ensures ∙ as_bytes (codes "bold") refl) (bold c.args.half c.in-1.is) c.named_command.ensures
 
 pub returns-in_ok-new-in-2 : goal.returns-in_ok-new-in-2
 returns-in_ok-new-in-2 c =
-    as_sent c.command_with-in-2.result (codes "delete-character") c.in_ok-new-in-2.field-0 (codes "back") c.args.half refl
-    (c.in_ok-new-in-2.ensures ∙ as_bytes (codes "back") refl) (deleted c.args.half c.in-2.is) c.command_with-in-2.ensures
+    as_sent c.named_command-in-2.result (codes "delete-character") c.in_ok-new-in-2.field-0 (codes "back") c.args.half refl
+    (c.in_ok-new-in-2.ensures ∙ as_bytes (codes "back") refl) (deleted c.args.half c.in-2.is) c.named_command-in-2.ensures
 
 pub returns-in-3 : goal.returns-in-3
 returns-in-3 c =
@@ -24,6 +24,6 @@ returns-in-3 c =
 
 pub returns-in_ok-letter-in_default : goal.returns-in_ok-letter-in_default
 returns-in_ok-letter-in_default c =
-    as_sent c.command_with-in_default.result (codes "insert-text") c.in_ok-letter-in_default.field-0 (letter ((c.args.half / 8) % 26)) c.args.half refl
+    as_sent c.named_command-in_default.result (codes "insert-text") c.in_ok-letter-in_default.field-0 (letter ((c.args.half / 8) % 26)) c.args.half refl
     c.in_ok-letter-in_default.ensures (typed c.args.half (λ e. omega arith) (λ e. omega arith) (λ e. omega arith) (λ e. omega arith))
-    c.command_with-in_default.ensures
+    c.named_command-in_default.ensures

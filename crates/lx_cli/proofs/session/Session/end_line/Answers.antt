@@ -1,5 +1,5 @@
 use Rattle.std.proofs.Common.{◌++◌, ◌∷◌, [], ◌∙◌, List, ℕ, subst}
-use Rattle.lx_layers.specs.Served.{AnswersIn}
+use Rattle.lx_serving.specs.Served.{AnswersIn}
 use Rattle.lx_cli.specs.Run.{sink_seen}
 use Rattle.lx_cli.specs.Steps.{IsPieceCutOff}
 use Rattle.lx_cli.proofs.Answering.{AreUnanswered-one}

@@ -1,5 +1,0 @@
-use Rattle.lx_layers.proofs.Within.{within_state}
-use Rattle.lx_layers.proofs.noting.committed.Goals as goal
-
-pub returns-clause-within : goal.returns-clause-within
-returns-clause-within c = within_state _ _ _ c.state.ensures.state

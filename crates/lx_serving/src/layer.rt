@@ -1,0 +1,45 @@
+use crate::outlined::Outlined;
+use lx_arguments::Mode;
+use lx_hub::Hub;
+use lx_node::NoMemory;
+use std::alloc::Global;
+
+/// What is beside the editor.
+#[derive(Drop)]
+pub(crate) enum Layer {
+    /// Nothing.
+    Plain,
+    /// Views that lag.
+    Hub(Hub),
+    /// An outline that is kept by events.
+    Outline(Outlined),
+    /// Nothing any more: memory ran out for a line beside a hub or an outline, which may lack a commit. No line is
+    /// answered after it.
+    Gone,
+}
+
+impl Layer {
+    ghost use Rattle.std.specs.Prelude.{◌≡◌, ℕ, Bool, IfOk, OnOk};
+    ghost use Rattle.lx_editor.specs.Editor.{new_editor};
+    ghost use Rattle.lx_serving.specs.Served.{IsBeside, new_layer};
+    ghost use Rattle.lx_serving.specs.declared.layer.Layer.TheVariants as layer;
+
+    /// What is beside a new editor in a mode.
+    pub(crate) fn new(alloc: Global, mode: Mode) -> Result<Layer, NoMemory>
+        ensures made { IfOk result (λ made. made ≡ new_layer mode) }
+        ensures beside { OnOk result ((view : Bool) (delay : ℕ) → IsBeside (new_editor view delay) (new_layer mode)) }
+    {
+        match mode {
+            Mode::Hub => Ok(Layer::Hub(Hub::new(alloc)?)),
+            Mode::Outline => Ok(Layer::Outline(Outlined::new(alloc)?)),
+            Mode::Plain | Mode::Generate(_) => Ok(Layer::Plain),
+        }
+    }
+
+    /// Lets go of what is there.
+    pub(crate) fn let_go(&mut self)
+        ensures { self.new ≡ layer.Gone }
+    {
+        *self = Layer::Gone;
+    }
+}
