@@ -1,5 +1,4 @@
 pub mod Attributes
-pub mod Beside
 pub mod Changed
 pub mod Copied
 pub mod Kept

@@ -1,19 +1,12 @@
 -- What is read from hosts.
 use Rattle.std.specs.Prelude.{ℕ, ◌==◌, if◌then◌else◌, Option, None, Some, min}
-use Rattle.std.specs.Option.{option_or}
 use Rattle.lx_trees.specs.Trees.{Trees, nil, tree}
-use Rattle.lx_trees.specs.Siblings.{first_of, next_in}
-use Rattle.lx_host.specs.Hosts.{Host, children_of, ids_of}
+use Rattle.lx_trees.specs.Siblings.{first_of}
+use Rattle.lx_host.specs.Hosts.{Host, children_of}
 
 -- the first child of the host of that id
 abbrev pub first_child : ℕ → Trees Host → Option ℕ
 first_child id hosts = first_of (children_of id hosts)
-
--- the host after that one among the children of a host
-abbrev pub next_sibling : ℕ → Trees Host → Option ℕ
-next_sibling id nil = None
-next_sibling id (tree host below rest) =
-    option_or (next_in (ids_of below) id) (option_or (next_sibling id below) (next_sibling id rest))
 
 -- the lesser of two numbers, where there are
 abbrev pub lesser : Option ℕ → Option ℕ → Option ℕ

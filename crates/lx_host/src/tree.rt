@@ -244,21 +244,13 @@ impl HostTree {
     }
 
     ghost use Rattle.lx_host.specs.Html.{first_tree};
-    ghost use Rattle.lx_host.specs.Lookups.{first_child, next_sibling, host_of};
+    ghost use Rattle.lx_host.specs.Lookups.{first_child, host_of};
 
     /// The id of the first child of the host of that id.
     pub fn first_child(&self, id: u32) -> Option<u32>
         ensures { result ≡ first_child id self.now.tree.hosts }
     {
         self.grove.first(id)
-    }
-
-    /// The id of the host after the one of that id, among the children of one. Host 0 and hosts that aren't
-    /// placed have none beside them.
-    pub fn next_sibling(&self, id: u32) -> Option<u32>
-        ensures { result ≡ next_sibling id self.now.tree.hosts }
-    {
-        self.grove.next(id)
     }
 
     ghost use Rattle.lx_host.specs.Hosts.{id_of};
