@@ -1,4 +1,4 @@
-pub mod Called
-pub mod Flags
-pub mod Names
+pub mod Flagged
+pub mod Named
+pub mod Tabled
 pub mod Told

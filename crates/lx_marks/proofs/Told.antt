@@ -6,8 +6,8 @@ use Rattle.std.proofs.lemmas.Bool.Decides.{eqb_tells}
 use Rattle.lx_trees.specs.Siblings.{is_among, NoRepeats}
 use Rattle.lx_marks.specs.Marks.{Marked, unmarked, flag_in, flagged, all_flagged, with_leaf, with_marked, with_names, absorbed, is_true_flag, is_touched, is_noted, IsMarked}
 use Rattle.lx_marks.specs.Laws.{either_flag}
-use Rattle.lx_marks.proofs.Names.{is_among-with_name, is_among-with_names, NoRepeats-with_name, NoRepeats-with_names, with_names-apart}
-use Rattle.lx_marks.proofs.Flags.{flag_in-flagged, flag_in-all_flagged, once_flagged, all_flagged-apart, is_some-flag_in}
+use Rattle.lx_marks.proofs.Named.{is_among-with_name, is_among-with_names, NoRepeats-with_name, NoRepeats-with_names, with_names-apart}
+use Rattle.lx_marks.proofs.Flagged.{flag_in-flagged, flag_in-all_flagged, once_flagged, all_flagged-apart, is_some-flag_in}
 
 -- ---- two flags of one key
 

@@ -1,7 +1,7 @@
 use Rattle.std.proofs.Common.{refl}
 use Rattle.lx_marks.specs.Marks.{with_leaf, with_marked, absorbed}
-use Rattle.lx_marks.proofs.Names.{is_among-with_name, is_among-with_names}
-use Rattle.lx_marks.proofs.Flags.{flag_in-flagged, flag_in-all_flagged}
+use Rattle.lx_marks.proofs.Named.{is_among-with_name, is_among-with_names}
+use Rattle.lx_marks.proofs.Flagged.{flag_in-flagged, flag_in-all_flagged}
 use Rattle.lx_marks.proofs.Told.{touched-leaf, touched-element, touched-absorbed, noted-leaf, noted-element, noted-absorbed, flag_stays, flag_stays_all, IsMarked-unmarked, IsMarked-with_leaf, IsMarked-with_element, IsMarked-absorbed, is_among-read, flag_in-read}
 use Rattle.lx_marks.proofs.laws.marks_are_told.Goals as goal
 

@@ -1,5 +1,5 @@
 -- The laws of names that come one after another, each after all unless it is there.
-use Rattle.std.proofs.Common.{◌≡◌, ◌∙◌, ℕ, true, false, eqb, ◌||◌, if◌then◌else◌, List, [], ◌∷◌, ◌++◌, refl, sym, ap, append-nil, append_assoc, arith}
+use Rattle.std.proofs.Common.{◌≡◌, ◌∙◌, ℕ, true, false, eqb, ◌||◌, if◌then◌else◌, List, [], ◌∷◌, ◌++◌, refl, sym, ap, subst, append-nil, append_assoc, arith}
 use Rattle.std.proofs.lemmas.Bool.Decides.{eqb_tells}
 use Rattle.lx_trees.specs.Siblings.{is_among, NoRepeats}
 use Rattle.lx_trees.proofs.Siblings.{is_among-append, NoRepeats-append}
@@ -22,6 +22,11 @@ NoRepeats-with_name k xs once =
       | true ↦ λ e. once
       | false ↦ λ e. NoRepeats-append xs (k ∷ []) once (refl, tt) (λ q among. grind (arith, e, among, eqb_tells k q))
     ] refl
+
+-- a name that isn't there goes after all
+pub NoRepeats-behind : (k : ℕ) (xs : List ℕ) → is_among k xs ≡ false → NoRepeats xs → NoRepeats (xs ++ k ∷ [])
+unfolding with_name
+NoRepeats-behind k xs absent once = subst (λ b. NoRepeats (if b then xs else xs ++ k ∷ [])) absent (NoRepeats-with_name k xs once)
 
 pub NoRepeats-with_names : (ks xs : List ℕ) → NoRepeats xs → NoRepeats (with_names ks xs)
 unfolding with_names

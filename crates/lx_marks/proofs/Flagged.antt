@@ -6,7 +6,7 @@ use Rattle.std.proofs.lemmas.Bool.Decides.{eqb_tells}
 use Rattle.lx_trees.specs.Siblings.{is_among, NoRepeats}
 use Rattle.lx_marks.specs.Marks.{flag_in, flagged, all_flagged, with_name}
 use Rattle.lx_marks.specs.Laws.{either_flag}
-use Rattle.lx_marks.proofs.Names.{is_among-with_name, NoRepeats-with_name}
+use Rattle.lx_marks.proofs.Named.{is_among-with_name, NoRepeats-with_name}
 
 -- a key has a flag where it is among the keys
 pub is_some-flag_in : (es : List (ℕ × Bool)) (q : ℕ) → is_some (flag_in es q) ≡ is_among q (keys_of es)
@@ -45,7 +45,7 @@ pub once_flagged : (k : ℕ) (flag : Bool) (es : List (ℕ × Bool)) → NoRepea
 once_flagged k flag es once = subst NoRepeats (sym (keys_of-flagged k flag es)) (NoRepeats-with_name k (keys_of es) once)
 
 -- elements that aren't there go after all
-flagged-absent : (k : ℕ) (flag : Bool) (es : List (ℕ × Bool)) → is_among k (keys_of es) ≡ false → flagged k flag es ≡ es ++ (k, flag) ∷ []
+pub flagged-absent : (k : ℕ) (flag : Bool) (es : List (ℕ × Bool)) → is_among k (keys_of es) ≡ false → flagged k flag es ≡ es ++ (k, flag) ∷ []
 unfolding flagged
 flagged-absent k flag [] none = refl
 flagged-absent k flag (e ∷ es) none = grind (arith, none, flagged-absent k flag es, eqb_tells k e.0, eqb_tells e.0 k)
