@@ -39,7 +39,8 @@ impl Attrs {
 
     /// The names and values, in their order.
     pub fn items(&self) -> &[(Name, Txt)]
-        ensures { result.now ≡ self.now }
+        ensures items { result.now ≡ self.now }
+        ensures rising { AreAttributes result.now }
     {
         self.items.as_slice()
     }

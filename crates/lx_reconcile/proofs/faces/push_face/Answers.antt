@@ -22,7 +22,7 @@ returns-2-clause-face c =
     (λ text. face_written c.args.host c.args.was.now.kind c.args.now.now.kind c.args.was.now.fields c.args.now.now.fields c.in_ok-old.old.attrs
     c.in_ok-new.new.attrs c.in_ok-old.old.text c.in_ok-new.new.text _ _ _
     c.in_ok-old.ensures.attributes c.in_ok-new.ensures.attributes c.in_ok-old.ensures.text c.in_ok-new.ensures.text
-    (rw (c.items.ensures, c.items-2.ensures) at c.in_ok-push_attributes.ensures) text)
+    (rw (c.items.ensures.items, c.items-2.ensures.items) at c.in_ok-push_attributes.ensures) text)
     c.push_text.ensures
 
 pub push_text-requires : goal.push_text-requires

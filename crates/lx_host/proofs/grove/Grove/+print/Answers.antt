@@ -16,7 +16,7 @@ print-returns-in_default t c =
 pub print-returns-then-is_void : goal.print-returns-then-is_void
 print-returns-then-is_void t c =
     void_printed c.args.page.now (one_found c.args.id c.host.ensures.ordered c.host.ensures.host c.in-Some.is) (sym c.if-is_void.ensures)
-    (rw c.items.ensures at c.in_ok-open.ensures)
+    (rw c.items.ensures.items at c.in_ok-open.ensures)
 
 pub print-returns : goal.print-returns
 print-returns t c =
@@ -28,7 +28,7 @@ print-returns t c =
       | print-in-None+in_ok-print_children-in-None w ↦ rw w.in-None.is (w.page-is ∙ w.in_ok-print_children-in-None.ensures)
     ] in
     on_ok_weaker c.close.result
-    (full_printed c.args.page.now one (sym c.if-is_void.ensures) (rw c.items.ensures at c.in_ok-open.ensures) inside c.in_ok-push_ending.ensures)
+    (full_printed c.args.page.now one (sym c.if-is_void.ensures) (rw c.items.ensures.items at c.in_ok-open.ensures) inside c.in_ok-push_ending.ensures)
     c.close.ensures
 
 pub print_children-loop-at-init : goal.print_children-loop-at-init
