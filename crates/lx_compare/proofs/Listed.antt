@@ -1,5 +1,6 @@
 -- Keys that are listed, and all that went with them.
-use Rattle.std.proofs.Common.{◌≡◌, ◌≢◌, ◌∙◌, ◌⊎◌, ℕ, ◌<◌, ◌+◌, zero, suc, Bool, true, false, eqb, List, [], ◌∷◌, ◌++◌, length, take, ◌-◌, None, Some, refl, sym, ap, inl, inr, arith}
+use Rattle.std.proofs.Common.{◌≡◌, ◌≢◌, ◌∙◌, ◌⊎◌, ℕ, ◌<◌, ◌+◌, zero, suc, Bool, true, false, eqb, List, [], ◌∷◌, ◌++◌, length, take, drop, get_or, ◌-◌, None, Some, refl, sym, ap, subst, inl, inr, arith}
+use Rattle.std.proofs.lemmas.List.{at_drop_more}
 use Rattle.std.specs.Prelude.{if◌then◌else◌}
 use Rattle.std.specs.List.{ends_with}
 use Rattle.std.proofs.lemmas.Slice.Eq.{ends_is}
@@ -17,7 +18,7 @@ use Rattle.lx_forest.proofs.Lookups.{has-parent_of, is_among-children_of}
 use Rattle.lx_forest.proofs.Tops.{is_within-child}
 use Rattle.lx_forest.proofs.Walks.{cases_option, ancestors-step}
 use Rattle.lx_forest.proofs.Within.{is_within-self, is_within-up}
-use Rattle.lx_marks.specs.Marks.{Marked, is_touched, is_noted}
+use Rattle.lx_marks.specs.Marks.{Marked, flag_in, is_touched, is_noted, is_true_flag}
 use Rattle.lx_links.specs.Stands.{Sound}
 use Rattle.lx_links.proofs.Placed.{parent_of-child}
 use Rattle.lx_links.proofs.Up.{in_order_at}
@@ -136,3 +137,22 @@ pub outside_told : (told : Bool) (before after : List ℕ) (q : ℕ) → AreKept
     → IsOutside (if told then None else Some before) q × (is_among q after ≡ false)
 outside_told true before after q kept out = absurd out
 outside_told false before after q kept out = (apart_before before after q kept out, out)
+
+-- ---- keys that are listed one after another
+
+still_listed : (old new : Forest) (before after : List ℕ) (k : ℕ) → AreKept before after → IsListed old new before k → IsListed old new after k
+still_listed old new before after k kept h = record { itself = kept k h.itself; below = λ gone q within. kept q (h.below gone q within) }
+
+-- each element that is marked itself is left, or is listed
+pub listed_more : (old new : Forest) (before after : List ℕ) (es : List (ℕ × Bool)) (i : ℕ) (e : ℕ × Bool) (q : ℕ) → i < length es → e ≡ get_or es i e
+    → AreKept before after → (e.1 ≡ true → IsListed old new after e.0)
+    → (is_true_flag (flag_in (drop i es) q) ≡ true) ⊎ IsListed old new before q
+    → (is_true_flag (flag_in (drop (i + 1) es) q) ≡ true) ⊎ IsListed old new after q
+listed_more old new before after es i e q less is kept own (inr there) = inr (still_listed old new before after q kept there)
+listed_more old new before after es i e q less is kept own (inl marked) =
+    let split : drop i es ≡ e ∷ drop (i + 1) es = at_drop_more (λ xs. xs) es i e less ∙ ap (λ (x : ℕ × Bool). x ∷ drop (i + 1) es) (sym is) in
+    let first : is_true_flag (flag_in (e ∷ drop (i + 1) es) q) ≡ true = ap (λ xs. is_true_flag (flag_in xs q)) (sym split) ∙ marked in
+    elim (eqb_tells q e.0) [
+      | inl same ↦ inr (subst (IsListed old new after) (sym same.1) (own (grind (arith, first, same.0))))
+      | inr apart ↦ inl (grind (arith, first, apart.0))
+    ]

@@ -162,20 +162,35 @@ fn add_leaves(keys: &mut Vec<Key>, old: &Links, new: &Links, leaves: &[Key]) -> 
     Ok(())
 }
 
+/// Adds an element where it is marked itself.
+fn add_element(
+    keys: &mut Vec<Key>,
+    old: &Links,
+    new: &Links,
+    key: Key,
+    flag: bool,
+) -> Result<(), NoMemory>
+    ensures kept { OnOk result (AreKept keys.old.items keys.new.items) }
+    ensures listed { OnOk result (flag ≡ true → IsListed old.now new.now keys.new.items key) }
+{
+    if flag {
+        return add_key(keys, old, new, key);
+    }
+    Ok(())
+}
+
 /// Adds the elements that are marked themselves.
 fn add_elements(
     keys: &mut Vec<Key>,
     old: &Links,
     new: &Links,
-    marks: &Marks,
+    elements: &[(Key, bool)],
 ) -> Result<(), NoMemory>
     ensures kept { OnOk result (AreKept keys.old.items keys.new.items) }
-    ensures listed { OnOk result ((q : ℕ) → is_true_flag (flag_in marks.now.elements q) ≡ true → IsListed old.now new.now keys.new.items q) }
+    ensures listed { OnOk result ((q : ℕ) → is_true_flag (flag_in elements.now q) ≡ true → IsListed old.now new.now keys.new.items q) }
 {
-    for (key, flag) in marks.elements() {
-        if *flag {
-            add_key(keys, old, new, *key)?;
-        }
+    for (key, flag) in elements {
+        add_element(keys, old, new, *key, *flag)?;
     }
     Ok(())
 }
@@ -186,5 +201,5 @@ fn add_marked(keys: &mut Vec<Key>, old: &Links, new: &Links, marks: &Marks) -> R
     ensures listed { OnOk result ((q : ℕ) → is_touched marks.now q ≡ true → IsListed old.now new.now keys.new.items q) }
 {
     add_leaves(keys, old, new, marks.leaves())?;
-    add_elements(keys, old, new, marks)
+    add_elements(keys, old, new, marks.elements())
 }

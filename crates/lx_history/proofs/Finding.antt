@@ -1,5 +1,6 @@
 -- Few keys of a list, and going through it key by key.
-use Rattle.std.proofs.Common.{◌≡◌, ◌∙◌, ◌+◌, ℕ, zero, suc, Bool, true, false, is_some, ◌&&◌, cond, filter, List, [], ◌∷◌, ◌++◌, refl, sym, ap, drop, slice_get, Some, arith}
+use Rattle.std.proofs.Common.{◌≡◌, ◌∙◌, ◌+◌, ◌<◌, ◌==◌, ℕ, zero, suc, Bool, true, false, not, is_some, ◌&&◌, cond, filter, List, [], ◌∷◌, ◌++◌, length, get_or, refl, sym, ap, drop, slice_get, Some, arith}
+use Rattle.std.proofs.lemmas.List.{at_drop_more}
 use Rattle.lx_node.specs.declared.cause.Point.{Point}
 use Rattle.lx_forest.specs.Forest.{Forest}
 use Rattle.lx_forest.specs.Lookups.{has}
@@ -48,6 +49,17 @@ with_marked : (p : ℕ → Bool) (t : Bool) (k : ℕ) (ks : List ℕ) (few : Few
     → with_keys (filter p (cond t (k ∷ ks) ks)) few ≡ with_keys (filter p ks) (cond (t && p k) (with_key k few) few)
 with_marked p true k ks few = with_chosen (p k) k (filter p ks) few
 with_marked p false k ks few = refl
+
+-- an element more, or not
+pub elements_step : (p : ℕ → Bool) (es : List (ℕ × Bool)) (i : ℕ) (e : ℕ × Bool) (few next : Few) → i < length es → e ≡ get_or es i e
+    → next ≡ cond ((e.1 && not (e.0 == 0)) && p e.0) (with_key e.0 few) few
+    → with_keys (filter p (marked_elements (drop (i + 1) es))) next ≡ with_keys (filter p (marked_elements (drop i es))) few
+elements_step p es i e few next below is given =
+    let rest = drop (i + 1) es in
+    ap (with_keys (filter p (marked_elements rest))) given
+    ∙ sym (with_marked p (e.1 && not (e.0 == 0)) e.0 (marked_elements rest) few)
+    ∙ ap (λ (x : ℕ × Bool). with_keys (filter p (marked_elements (x ∷ rest))) few) is
+    ∙ sym (at_drop_more (λ xs. with_keys (filter p (marked_elements xs)) few) es i e below)
 
 -- what is several stays so
 pub stopped : (rest : List ℕ) (few all : Few) → few ≡ Several → with_keys rest few ≡ all → few ≡ all

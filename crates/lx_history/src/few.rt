@@ -78,10 +78,10 @@ fn with_element(few: Few, links: &Links, key: Key, flag: bool) -> Few
 
 /// With the elements that were marked themselves and are in the tree, but for the root. It goes no further than to the
 /// second one.
-fn with_elements(mut few: Few, links: &Links, marks: &Marks) -> Few
-    ensures { result ≡ with_keys (filter (λ k. has k links.now) (marked_elements marks.now.elements)) few }
+fn with_elements(mut few: Few, links: &Links, elements: &[(Key, bool)]) -> Few
+    ensures { result ≡ with_keys (filter (λ k. has k links.now) (marked_elements elements.now)) few }
 {
-    for (key, flag) in marks.elements() {
+    for (key, flag) in elements {
         few = with_element(few, links, *key, *flag);
         if few.is_several() {
             return few;
@@ -95,5 +95,5 @@ pub(crate) fn few_changed(links: &Links, marks: &Marks) -> Few
     ensures { result ≡ few_of (changed links.now marks.now) }
 {
     let few = with_leaves(Few::Empty, links, marks.leaves());
-    with_elements(few, links, marks)
+    with_elements(few, links, marks.elements())
 }

@@ -290,6 +290,12 @@ kept_element f passed e p =
     kept_either p (is_at is_list f) (λ q. list_any (is_of_marked f q) passed) (λ q. is_of_marked f q e) (preorder f)
     ∙ kept_alike p (is_at is_list f) _ _ (preorder f) (λ q. any_last (is_of_marked f q) passed e)
 
+-- the elements that were passed, and one more
+pub element_more : (es : List (ℕ × Bool)) (i : ℕ) (e : ℕ × Bool) → i < length es → e ≡ get_or es i e → take (i + 1) es ≡ take i es ++ e ∷ []
+element_more [] i e less is = absurd (omega arith)
+element_more (f ∷ es) zero e less is = ap (λ x. x ∷ []) (sym is)
+element_more (f ∷ es) (suc i) e less is = ap (λ xs. f ∷ xs) (element_more es i e (omega arith) is)
+
 pub nothing_kept : (xs : List ℕ) → filter (λ q. false) xs ≡ []
 nothing_kept [] = refl
 nothing_kept (x ∷ xs) = nothing_kept xs

@@ -28,9 +28,9 @@ fn is_of_a_list(links: &Links, key: Key) -> bool {
 }
 
 /// Whether few of the elements that are marked themselves are of lists.
-fn few_are_of_lists(links: &Links, marks: &Marks) -> bool {
+fn few_are_of_lists(links: &Links, elements: &[(Key, bool)]) -> bool {
     let mut left = MOST_OF_LISTS;
-    for (key, flag) in marks.elements() {
+    for (key, flag) in elements {
         if *flag && is_of_a_list(links, *key) {
             if left == 0 {
                 return false;
@@ -44,7 +44,7 @@ fn few_are_of_lists(links: &Links, marks: &Marks) -> bool {
 /// Whether so few marks are of lists that these are looked for by them. Where few elements are marked at all, none is
 /// looked at.
 pub(crate) fn are_few(links: &Links, marks: &Marks) -> bool {
-    marks.element_at(MOST_OF_LISTS).is_none() || few_are_of_lists(links, marks)
+    marks.element_at(MOST_OF_LISTS).is_none() || few_are_of_lists(links, marks.elements())
 }
 
 /// The place at which a list of the root's tree comes among keys that are kept in preorder: none where it is there.
@@ -122,10 +122,14 @@ fn keep_of_element(keys: &mut Vec<Key>, links: &Links, key: Key, flag: bool) -> 
 }
 
 /// Keeps the lists that elements are of which are marked themselves.
-fn keep_of_elements(keys: &mut Vec<Key>, links: &Links, marks: &Marks) -> Result<(), NoMemory>
-    ensures { (p : ℕ → Bool) → keys.old.items ≡ filter p (lookups.preorder links.now) → OnOk result (keys.new.items ≡ filter (λ q. p q || (blocks.is_at kinds.is_list links.now q && list_any (λ e. e.1 && touched.is_of_list links.now q e.0) marks.now.elements)) (lookups.preorder links.now)) }
+fn keep_of_elements(
+    keys: &mut Vec<Key>,
+    links: &Links,
+    elements: &[(Key, bool)],
+) -> Result<(), NoMemory>
+    ensures { (p : ℕ → Bool) → keys.old.items ≡ filter p (lookups.preorder links.now) → OnOk result (keys.new.items ≡ filter (λ q. p q || (blocks.is_at kinds.is_list links.now q && list_any (λ e. e.1 && touched.is_of_list links.now q e.0) elements.now)) (lookups.preorder links.now)) }
 {
-    for (key, flag) in marks.elements() {
+    for (key, flag) in elements {
         keep_of_element(keys, links, *key, *flag)?;
     }
     Ok(())
@@ -140,6 +144,6 @@ pub(crate) fn touched_lists(alloc: Global, draft: &Draft) -> Result<Vec<Key>, No
     let marks = draft.marks();
     let mut lists = Vec::new(alloc);
     keep_of_leaves(&mut lists, links, marks.leaves())?;
-    keep_of_elements(&mut lists, links, marks)?;
+    keep_of_elements(&mut lists, links, marks.elements())?;
     Ok(lists)
 }

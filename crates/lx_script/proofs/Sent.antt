@@ -1,18 +1,16 @@
 -- The tokens of what is written item by item, of attributes, and of members that may be left out.
-use Rattle.std.proofs.Common.{◌≡◌, ◌∙◌, ap, sym, refl, ℕ, ◌+◌, ◌<◌, Bool, List, [], ◌∷◌, ◌++◌, length, get_or, drop, map, Option, None, Some}
-use Rattle.std.proofs.lemmas.List.{at_drop_more}
-use Rattle.std.proofs.lemmas.Map.Text.{is_eq-slice_cmp}
-use Rattle.std.proofs.lemmas.Slice.Eq.{bytes_eq-Decides}
-use Rattle.std.specs.Cmp.Lexicographic.{slice_cmp}
-use Rattle.std.specs.Ordering.{is_eq, match_ordering, nat_cmp}
+use Rattle.std.proofs.Common.{◌≡◌, ◌∙◌, ◌&&◌, ap, sym, refl, ℕ, Bool, true, false, List, [], ◌∷◌, ◌++◌, drop, map, Option, None, Some}
+use Rattle.std.proofs.lemmas.Cmp.{nat_list_cmp_total, on_total}
+use Rattle.std.specs.Cmp.{IsTotalOrder}
+use Rattle.std.specs.Ordering.{is_lt, match_ordering, ordering_reverse}
 use Rattle.std.specs.declared.cmp.Ordering.{Ordering}
 use Rattle.std.specs.declared.cmp.Ordering.TheVariants.{Less, Equal, Greater}
 use Rattle.json.specs.Token.{Token, end_object}
 use Rattle.json.specs.Tree.{items_tokens, members_tokens}
-use Rattle.serde_json.specs.Data.{Members, member, put}
+use Rattle.serde_json.specs.Data.{Members, member, no_members, put}
 use Rattle.serde_json.specs.View.{items_of}
 use Rattle.serde_json.specs.Written.{items_outline, members_outline}
-use Rattle.lx_host.specs.Words.{before_others, name_order, name_word, with_attribute}
+use Rattle.lx_host.specs.Words.{name_order, name_word, names_rise}
 use Rattle.lx_host.specs.declared.op.Op.{Op}
 use Rattle.lx_host.specs.declared.tag.Name.{Name}
 use Rattle.lx_fields.specs.Parts.{natural, text_data}
@@ -30,43 +28,50 @@ keys_left keys = items_tokens (items_outline (items_of (map natural keys)))
 abbrev pub attributes_left : List (Name × List ℕ) → List Token
 attributes_left attributes = members_tokens (members_outline (members_in_order attributes))
 
--- ---- an attribute that is written among others is a member that is put among theirs
+-- ---- attributes whose names rise are members in their order
 
-same_words : (k l : List ℕ) → slice_cmp nat_cmp k l ≡ Equal → k ≡ l
-same_words k l e = (bytes_eq-Decides k l).0 (sym (is_eq-slice_cmp k l) ∙ ap is_eq e)
+order : IsTotalOrder name_order
+order = on_total name_word nat_list_cmp_total
 
-put_by : (a b : Name × List ℕ) (rest : List (Name × List ℕ)) (order : Ordering) → (order ≡ Equal → name_word b.0 ≡ name_word a.0)
-    → put (name_word b.0) (text_data b.1) (members_in_order rest) ≡ members_in_order (with_attribute b.0 (Some b.1) rest)
-    → match_ordering order
-    (member (name_word b.0) (text_data b.1) (member (name_word a.0) (text_data a.1) (members_in_order rest)))
-    (member (name_word a.0) (text_data b.1) (members_in_order rest))
-    (member (name_word a.0) (text_data a.1) (put (name_word b.0) (text_data b.1) (members_in_order rest)))
-    ≡ members_in_order (match_ordering order
-    (before_others b.0 (Some b.1) (a ∷ rest))
-    (before_others b.0 (Some b.1) rest)
-    (a ∷ with_attribute b.0 (Some b.1) rest))
-put_by a b rest Less same behind = refl
-put_by a b rest Equal same behind = ap (λ k. member k (text_data b.1) (members_in_order rest)) (sym (same refl))
-put_by a b rest Greater same behind = ap (λ ms. member (name_word a.0) (text_data a.1) ms) behind
+is_less : (o : Ordering) → is_lt o ≡ true → o ≡ Less
+is_less Less e = refl
+is_less Equal e = absurd (cc)
+is_less Greater e = absurd (cc)
 
-put_among : (name : Name) (text : List ℕ) (attributes : List (Name × List ℕ))
-    → members_in_order (with_attribute name (Some text) attributes) ≡ put (name_word name) (text_data text) (members_in_order attributes)
-put_among name text [] = refl
-put_among name text (a ∷ rest) =
-    sym (put_by a (name, text) rest (name_order name a.0) (same_words (name_word name) (name_word a.0)) (sym (put_among name text rest)))
+both : (s t : Bool) → (s && t) ≡ true → (s ≡ true) × (t ≡ true)
+both true t e = (refl, e)
+both false t e = absurd (cc)
 
--- and so are all that are left, one after another
-pub put_step : (made new attributes : List (Name × List ℕ)) (item : Name × List ℕ) (text : List ℕ) (i : ℕ) (all : Members)
-    → i < length attributes → item ≡ get_or attributes i item → text ≡ item.1 → new ≡ with_attribute item.0 (Some text) made
-    → attributes_onto (members_in_order made) (drop i attributes) ≡ all
-    → attributes_onto (members_in_order new) (drop (i + 1) attributes) ≡ all
-put_step made new attributes item text i all below is same written h =
-    let rest = drop (i + 1) attributes in
-    ap (λ a. attributes_onto (members_in_order a) rest) (written ∙ ap (λ t. with_attribute item.0 (Some t) made) same)
-    ∙ ap (λ ms. attributes_onto ms rest) (put_among item.0 item.1 made)
-    ∙ ap (λ a. attributes_onto (members_in_order made) (a ∷ rest)) is
-    ∙ sym (at_drop_more (attributes_onto (members_in_order made)) attributes i item below)
-    ∙ h
+-- names that rise do so without the second
+rise_past : (a b : Name × List ℕ) (rest : List (Name × List ℕ)) → names_rise (a ∷ b ∷ rest) ≡ true → names_rise (a ∷ rest) ≡ true
+rise_past a b [] e = refl
+rise_past a b (c ∷ rest) e =
+    let first = both (is_lt (name_order a.0 b.0)) (names_rise (b ∷ c ∷ rest)) e in
+    let second = both (is_lt (name_order b.0 c.0)) (names_rise (c ∷ rest)) first.1 in
+    let less : name_order a.0 c.0 ≡ Less = order.trans a.0 b.0 c.0 (is_less _ first.0) (is_less _ second.0) in
+    ap (λ o. is_lt o && names_rise (c ∷ rest)) less ∙ second.1
+
+-- what is put after a member that it is greater than leaves that one first
+put_behind : (a b : Name × List ℕ) (ms : Members) → name_order a.0 b.0 ≡ Less
+    → put (name_word b.0) (text_data b.1) (member (name_word a.0) (text_data a.1) ms) ≡ member (name_word a.0) (text_data a.1) (put (name_word b.0) (text_data b.1) ms)
+put_behind a b ms less =
+    ap (λ o. match_ordering o (member (name_word b.0) (text_data b.1) (member (name_word a.0) (text_data a.1) ms)) (member (name_word a.0) (text_data b.1) ms)
+    (member (name_word a.0) (text_data a.1) (put (name_word b.0) (text_data b.1) ms))) (order.antisymm b.0 a.0 ∙ ap ordering_reverse less)
+
+first_stays : (a : Name × List ℕ) (rest : List (Name × List ℕ)) (ms : Members) → names_rise (a ∷ rest) ≡ true
+    → attributes_onto (member (name_word a.0) (text_data a.1) ms) rest ≡ member (name_word a.0) (text_data a.1) (attributes_onto ms rest)
+first_stays a [] ms e = refl
+first_stays a (b ∷ rest) ms e =
+    ap (λ ns. attributes_onto ns rest) (put_behind a b ms (is_less _ (both (is_lt (name_order a.0 b.0)) (names_rise (b ∷ rest)) e).0))
+    ∙ first_stays a rest (put (name_word b.0) (text_data b.1) ms) (rise_past a b rest e)
+
+rise_rest : (a : Name × List ℕ) (rest : List (Name × List ℕ)) → names_rise (a ∷ rest) ≡ true → names_rise rest ≡ true
+rise_rest a [] e = refl
+rise_rest a (b ∷ rest) e = (both (is_lt (name_order a.0 b.0)) (names_rise (b ∷ rest)) e).1
+
+pub risen : (attributes : List (Name × List ℕ)) → names_rise attributes ≡ true → attributes_onto no_members attributes ≡ members_in_order attributes
+risen [] e = refl
+risen (a ∷ rest) e = first_stays a rest no_members e ∙ ap (member (name_word a.0) (text_data a.1)) (risen rest (rise_rest a rest e))
 
 -- ---- members that may be left out
 

@@ -1,30 +1,30 @@
 //! What a reply says of operations.
 
-ghost use Rattle.std.specs.Prelude.{◌≡◌, IfOk, OnOk, ◌∷◌, [], decimal, map};
+ghost use Rattle.std.specs.Prelude.{◌≡◌, OnOk, ◌∷◌, [], decimal, map};
 ghost use Rattle.json.specs.Token as token;
 ghost use Rattle.lx_host.specs.declared.op.Op.TheVariants.{Create, Place, Drop, Text, Attr, Break};
-ghost use Rattle.lx_script.specs.Replies.{op_data, attributes_data, attributes_onto, list_data};
+ghost use Rattle.lx_script.specs.Replies.{op_data, attributes_data, list_data};
 ghost use Rattle.lx_script.specs.Sent.{Sends, Tells, members_in_order};
-ghost use Rattle.serde_json.specs.Data.{object, no_members};
+ghost use Rattle.serde_json.specs.Data.{object};
 
 use crate::parts::{put_number_or_null, put_text_or_null};
 use json::Writer;
 use lx_host::{Attrs, Name, Op, Tag};
-use lx_node::{Key, NoMemory, Txt};
-use std::alloc::{AllocError, Global};
+use lx_node::{Key, Txt};
+use std::alloc::AllocError;
 
-pub(crate) fn put_ops(alloc: Global, writer: &mut Writer, ops: &[Op]) -> Result<(), AllocError>
+pub(crate) fn put_ops(writer: &mut Writer, ops: &[Op]) -> Result<(), AllocError>
     ensures { OnOk result (Tells (list_data (map op_data ops.now)) writer.old writer.new) }
 {
     writer.begin_array()?;
     'ops: for op in ops {
-        put_op(alloc, writer, op)?;
+        put_op(writer, op)?;
     }
     writer.end_array()?;
     Ok(())
 }
 
-fn put_op(alloc: Global, writer: &mut Writer, op: &Op) -> Result<(), AllocError>
+fn put_op(writer: &mut Writer, op: &Op) -> Result<(), AllocError>
     ensures { OnOk result (Tells (op_data op.now) writer.old writer.new) }
 {
     match op {
@@ -35,7 +35,7 @@ fn put_op(alloc: Global, writer: &mut Writer, op: &Op) -> Result<(), AllocError>
             attrs,
             text,
             ending,
-        } => put_create(alloc, writer, *id, *key, *tag, attrs, text, *ending),
+        } => put_create(writer, *id, *key, *tag, attrs, text, *ending),
         Op::Place {
             parent,
             child,
@@ -50,7 +50,6 @@ fn put_op(alloc: Global, writer: &mut Writer, op: &Op) -> Result<(), AllocError>
 
 #[tactic(auto, unfolding(crate::specs::Replies::op_data))]
 fn put_create(
-    alloc: Global,
     writer: &mut Writer,
     id: u32,
     key: Key,
@@ -64,7 +63,7 @@ fn put_create(
     begin_op(writer, "create", id)?;
     writer.u64(key.number() as u64)?;
     writer.string(tag.word())?;
-    put_attributes(alloc, writer, attributes.items())?;
+    put_attributes(writer, attributes)?;
     put_text_or_null(writer, text)?;
     writer.boolean(ending)?;
     writer.end_array()?;
@@ -142,30 +141,11 @@ fn begin_op(writer: &mut Writer, word: &str, id: u32) -> Result<(), AllocError>
     Ok(())
 }
 
-/// The attributes of a host as an object, whose members are in byte order of their names.
-fn put_attributes(
-    alloc: Global,
-    writer: &mut Writer,
-    attributes: &[(Name, Txt)],
-) -> Result<(), AllocError>
+/// The attributes of a host as an object, whose members are in byte order of their names, as attributes are.
+fn put_attributes(writer: &mut Writer, attributes: &Attrs) -> Result<(), AllocError>
     ensures { OnOk result (Tells (attributes_data attributes.now) writer.old writer.new) }
 {
-    let Ok(attributes) = in_order(alloc, attributes) else {
-        return Err(AllocError);
-    };
     put_in_order(writer, attributes.items())
-}
-
-/// Equal attributes in byte order of their names. That they had this order no clause of `Attrs` says.
-fn in_order(alloc: Global, attributes: &[(Name, Txt)]) -> Result<Attrs, NoMemory>
-    ensures { IfOk result (λ made. members_in_order made ≡ attributes_onto no_members attributes.now) }
-{
-    let mut made = Attrs::of(Vec::new(alloc));
-    'attributes: for (name, text) in attributes {
-        let text = text.copy(alloc)?;
-        made.write(*name, Some(text))?;
-    }
-    Ok(made)
 }
 
 fn put_in_order(writer: &mut Writer, attributes: &[(Name, Txt)]) -> Result<(), AllocError>

@@ -30,7 +30,7 @@ pub fn write_reply(alloc: Global, reply: &Reply) -> Result<Vec<u8>, NoMemory>
     ensures { IfOk result (λ bytes. bytes.items ≡ reply_text reply.now) }
 {
     let mut writer = Writer::new(Vec::with_capacity(alloc, FIRST_ROOM)?);
-    put_reply(alloc, &mut writer, reply)?;
+    put_reply(&mut writer, reply)?;
     Ok(writer.into_inner())
 }
 
@@ -45,7 +45,7 @@ pub fn write_commit(
     ensures { IfOk result (λ bytes. bytes.items ≡ reply_text (Committed number ops.now handled view.now)) }
 {
     let mut writer = Writer::new(Vec::with_capacity(alloc, FIRST_ROOM)?);
-    put_commit(alloc, &mut writer, number, ops, handled, view)?;
+    put_commit(&mut writer, number, ops, handled, view)?;
     Ok(writer.into_inner())
 }
 
@@ -83,7 +83,7 @@ fn state_value(alloc: Global, document: Value) -> Result<Value, AllocError>
 }
 
 #[tactic(auto, unfolding(crate::specs::Replies::reply_data))]
-fn put_reply(alloc: Global, writer: &mut Writer, reply: &Reply) -> Result<(), AllocError>
+fn put_reply(writer: &mut Writer, reply: &Reply) -> Result<(), AllocError>
     ensures { OnOk result (Tells (reply_data reply.now) writer.old writer.new) }
 {
     match reply {
@@ -92,7 +92,7 @@ fn put_reply(alloc: Global, writer: &mut Writer, reply: &Reply) -> Result<(), Al
             ops,
             handled,
             view,
-        } => put_commit(alloc, writer, *number, ops.items(), *handled, view),
+        } => put_commit(writer, *number, ops.items(), *handled, view),
         Reply::Refused { cause, step } => put_refusal(writer, cause, *step),
         Reply::Idle { handled } => put_idle(writer, *handled),
         Reply::Gathered(count) => put_number_alone(writer, "gathered", *count as u64),
@@ -105,7 +105,6 @@ fn put_reply(alloc: Global, writer: &mut Writer, reply: &Reply) -> Result<(), Al
 }
 
 fn put_commit(
-    alloc: Global,
     writer: &mut Writer,
     number: u32,
     ops: &[Op],
@@ -118,7 +117,7 @@ fn put_commit(
     put_number_member(writer, "commit", number as u64)?;
     put_handled(writer, handled)?;
     writer.key("ops")?;
-    put_ops(alloc, writer, ops)?;
+    put_ops(writer, ops)?;
     put_told_view(writer, html)?;
     writer.end_object()?;
     Ok(())

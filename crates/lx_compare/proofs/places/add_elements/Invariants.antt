@@ -1,4 +1,4 @@
-use Rattle.std.proofs.Common.{◌≡◌, ◌⊎◌, ℕ, true}
+use Rattle.std.proofs.Common.{◌≡◌, ◌⊎◌, ℕ, true, drop}
 use Rattle.lx_marks.specs.Marks.{is_true_flag, flag_in}
 use Rattle.lx_compare.specs.Places.{AreKept, IsListed}
 use Rattle.lx_compare.proofs.places.add_elements.Given as goal
@@ -7,5 +7,5 @@ use Rattle.lx_compare.proofs.places.add_elements.Given as goal
 abbrev pub invariant-loop-key : goal.invariant-loop-key
 invariant-loop-key l = record {
   kept : AreKept l.fn.keys.items l.keys.items;
-  listed : (q : ℕ) → is_true_flag (flag_in l.marks.elements q) ≡ true → (is_true_flag (flag_in l.key-iterator q) ≡ true) ⊎ IsListed l.old l.new l.keys.items q;
+  listed : (q : ℕ) → is_true_flag (flag_in l.elements q) ≡ true → (is_true_flag (flag_in (drop l.key-index l.elements) q) ≡ true) ⊎ IsListed l.old l.new l.keys.items q;
 }

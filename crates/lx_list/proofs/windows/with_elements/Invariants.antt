@@ -1,6 +1,4 @@
-use Rattle.std.proofs.Common.{[]}
-use Rattle.std.specs.Prelude.{map}
-use Rattle.std.specs.Map.Iter.{deref_pair}
+use Rattle.std.proofs.Common.{take, []}
 use Rattle.lx_list.proofs.WindowEnds.{IsWindowOf}
 use Rattle.lx_list.proofs.windows.with_elements.Given as goal
 
@@ -8,4 +6,4 @@ use Rattle.lx_list.proofs.windows.with_elements.Given as goal
 abbrev pub invariant-loop-key : goal.invariant-loop-key
 invariant-loop-key l =
     IsWindowOf l.links (record { leaves = l.marks.leaves; elements = [] }) l.list l.fn.of_leaves
-    → IsWindowOf l.links (record { leaves = l.marks.leaves; elements = map deref_pair l.yielded }) l.list l.window
+    → IsWindowOf l.links (record { leaves = l.marks.leaves; elements = take l.key-index l.marks.elements }) l.list l.window
