@@ -6,7 +6,7 @@ use Rattle.lx_trees.specs.Siblings.{is_among}
 use Rattle.lx_node.specs.Strings.{characters_of}
 use Rattle.lx_node.specs.declared.fields.Fields.{Fields}
 use Rattle.lx_marks.specs.Marks.{Marked, with_leaf}
-use Rattle.lx_marks.proofs.Names.{is_among-with_name}
+use Rattle.lx_marks.proofs.Named.{is_among-with_name}
 use Rattle.lx_forest.specs.Forest.{Forest, Label}
 use Rattle.lx_forest.specs.Lookups.{has, IsForest}
 use Rattle.lx_forest.specs.Edits.{with_new, with_fields, take_out, put_in, CanPut}

@@ -4,7 +4,7 @@ use Rattle.std.proofs.lemmas.Bool.Decides.{eqb_tells}
 use Rattle.lx_node.specs.Kinds.{is_element}
 use Rattle.lx_node.specs.declared.kind.Kind.{Kind}
 use Rattle.lx_marks.specs.Marks.{Marked, flag_in, is_true_flag, with_leaf, with_marked}
-use Rattle.lx_marks.proofs.Flags.{flag_in-flagged}
+use Rattle.lx_marks.proofs.Flagged.{flag_in-flagged}
 use Rattle.lx_marks.proofs.Told.{true_flag-either}
 use Rattle.lx_forest.specs.Forest.{Forest}
 use Rattle.lx_forest.specs.Lookups.{kind_of, ancestors}

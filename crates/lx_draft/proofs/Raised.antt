@@ -7,7 +7,7 @@ use Rattle.lx_node.specs.Kinds.{is_element}
 use Rattle.lx_node.specs.declared.kind.Kind.{Kind}
 use Rattle.lx_node.specs.declared.fields.Fields.{Fields}
 use Rattle.lx_marks.specs.Marks.{Marked, flag_in, flagged, is_noted, with_leaf, with_marked}
-use Rattle.lx_marks.proofs.Flags.{flag_in-flagged}
+use Rattle.lx_marks.proofs.Flagged.{flag_in-flagged}
 use Rattle.lx_marks.proofs.Told.{noted-element, is_some-flagged}
 use Rattle.lx_forest.specs.Forest.{Forest, Label}
 use Rattle.lx_forest.specs.Lookups.{has, parent_of, is_attached, ancestors, IsForest}

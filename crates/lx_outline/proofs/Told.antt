@@ -15,7 +15,7 @@ use Rattle.lx_forest.proofs.Lookups.{has-parent_of, is_among-children_of}
 use Rattle.lx_forest.proofs.Walks.{cases_option, ancestors-step}
 use Rattle.lx_links.proofs.Seen.{no_spot}
 use Rattle.lx_marks.specs.Marks.{Marked, flag_in, is_true_flag, is_touched}
-use Rattle.lx_marks.proofs.Flags.{is_some-flag_in}
+use Rattle.lx_marks.proofs.Flagged.{is_some-flag_in}
 use Rattle.lx_outline.specs.declared.event.Event.{Event}
 use Rattle.lx_outline.specs.declared.keys.Change.TheVariants as change
 use Rattle.lx_outline.specs.Events.{IsSame, IsDestroyed, IsCreated, IsUpdated, ascends, event_of, AreAll, AreEvents}

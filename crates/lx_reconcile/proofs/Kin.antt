@@ -14,7 +14,7 @@ use Rattle.lx_trees.specs.Spots.{Spot, spot, children_at}
 use Rattle.lx_trees.proofs.NamedTrees as trees
 use Rattle.lx_trees.proofs.Siblings.{is_among-append}
 use Rattle.lx_marks.specs.Marks.{Marked, is_noted}
-use Rattle.lx_marks.proofs.Flags.{is_some-flag_in}
+use Rattle.lx_marks.proofs.Flagged.{is_some-flag_in}
 use Rattle.lx_trees.specs.Lookups as rooted
 use Rattle.lx_trees.specs.Lookups.{IsOrdered}
 use Rattle.lx_trees.proofs.Lookups as lookups
