@@ -6,12 +6,12 @@ use Rattle.lx_step.specs.declared.built_in.Turn.{Turn}
 use Rattle.lx_step.specs.declared.command.Command.{Command}
 use Rattle.lx_step.specs.declared.rule.Rule.{Rule}
 use Rattle.lx_rules.specs.declared.any_rule.AnyRule.{AnyRule}
-use Rattle.lx_run.specs.Lines.{Ended, answer_drafted}
-use Rattle.lx_run.specs.Refusals.{TellsRefusal}
-use Rattle.lx_run.specs.declared.ending.Ending.{Ending}
-use Rattle.lx_run.specs.declared.ending.Ending.TheVariants as ending
-use Rattle.lx_run.specs.declared.refusal.Refusal.{Refusal}
-use Rattle.lx_run.specs.declared.refusal.Refusal.TheVariants as refusal
+use Rattle.lx_update.specs.Lines.{Ended, answer_drafted}
+use Rattle.lx_update.specs.Refusals.{TellsRefusal}
+use Rattle.lx_update.specs.declared.ending.Ending.{Ending}
+use Rattle.lx_update.specs.declared.ending.Ending.TheVariants as ending
+use Rattle.lx_update.specs.declared.refusal.Refusal.{Refusal}
+use Rattle.lx_update.specs.declared.refusal.Refusal.TheVariants as refusal
 use Rattle.lx_editor.specs.declared.outcome.Outcome.{Outcome}
 use Rattle.lx_editor.specs.declared.outcome.Outcome.TheVariants as made
 use Rattle.lx_editor.specs.declared.outcome.Verdict.{Verdict}

@@ -39,11 +39,11 @@ use Rattle.lx_reconcile.proofs.Covered.{covered}
 use Rattle.lx_edit.specs.Texts.{simple_at}
 use Rattle.lx_reconcile.proofs.StartEnd.{one_tree}
 use Rattle.lx_reconcile.proofs.Frozen.{frozen_parts, one_left, swept_alone, kind_stays}
-use Rattle.lx_run.specs.Lines.{at_first, drafted, script_from, steps_run}
-use Rattle.lx_run.specs.Refusals.{and_then, at_none, TellsRefusal}
-use Rattle.lx_run.proofs.Emptied.{emptied_done}
-use Rattle.lx_run.specs.declared.refusal.Refusal.{Refusal}
-use Rattle.lx_run.specs.declared.refusal.Refusal.TheVariants as refusal
+use Rattle.lx_update.specs.Lines.{at_first, drafted, script_from, steps_run}
+use Rattle.lx_update.specs.Refusals.{and_then, at_none, TellsRefusal}
+use Rattle.lx_update.proofs.Emptied.{emptied_done}
+use Rattle.lx_update.specs.declared.refusal.Refusal.{Refusal}
+use Rattle.lx_update.specs.declared.refusal.Refusal.TheVariants as refusal
 use Rattle.lx_draft.specs.declared.state.State.{State}
 use Rattle.lx_history.specs.History.{History, new_history, noted}
 use Rattle.lx_rules.specs.declared.any_rule.AnyRule.{AnyRule}

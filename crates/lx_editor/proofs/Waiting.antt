@@ -10,10 +10,10 @@ use Rattle.lx_step.specs.declared.rule.Rule.{Rule}
 use Rattle.lx_step.specs.declared.step.Step.{Step}
 use Rattle.lx_draft.specs.Working.{Working}
 use Rattle.lx_script.specs.Grammar.{Reads}
-use Rattle.lx_run.specs.Lines.{deferred_run, drafted}
-use Rattle.lx_run.specs.Refusals.{TellsRefusal}
-use Rattle.lx_run.specs.declared.refusal.Refusal.{Refusal}
-use Rattle.lx_run.specs.declared.refusal.Refusal.TheVariants as refusal
+use Rattle.lx_update.specs.Lines.{deferred_run, drafted}
+use Rattle.lx_update.specs.Refusals.{TellsRefusal}
+use Rattle.lx_update.specs.declared.refusal.Refusal.{Refusal}
+use Rattle.lx_update.specs.declared.refusal.Refusal.TheVariants as refusal
 use Rattle.lx_editor.specs.declared.outcome.Outcome.{Outcome}
 use Rattle.lx_editor.specs.declared.outcome.Outcome.TheVariants as made
 use Rattle.lx_editor.specs.declared.pending.Pending.{Pending}

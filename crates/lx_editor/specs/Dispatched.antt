@@ -6,9 +6,9 @@ use Rattle.lx_step.specs.declared.command.Command.{Command}
 use Rattle.lx_step.specs.declared.listener.Listener.{Listener}
 use Rattle.lx_bus.specs.Offers.{most_listeners}
 use Rattle.lx_draft.specs.Working.{Working}
-use Rattle.lx_run.specs.Lines.{dispatch_run, answer_drafted}
-use Rattle.lx_run.specs.declared.ending.Ending.{Ending}
-use Rattle.lx_run.specs.declared.ending.Ending.TheVariants.{Left, Turned}
+use Rattle.lx_update.specs.Lines.{dispatch_run, answer_drafted}
+use Rattle.lx_update.specs.declared.ending.Ending.{Ending}
+use Rattle.lx_update.specs.declared.ending.Ending.TheVariants.{Left, Turned}
 use Rattle.lx_editor.specs.declared.recording.Recording.{Recording}
 use Rattle.lx_editor.specs.declared.outcome.Outcome.{Outcome}
 use Rattle.lx_editor.specs.declared.outcome.Outcome.TheVariants.{Refused}

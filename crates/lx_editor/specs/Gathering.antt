@@ -6,8 +6,8 @@ use Rattle.lx_step.specs.declared.step.Step.{Step}
 use Rattle.lx_step.specs.Lines.{untagged, both_tags}
 use Rattle.lx_draft.specs.Covering as drafts
 use Rattle.lx_draft.specs.Working.{Working, started}
-use Rattle.lx_run.specs.Lines.{deferred_run, drafted}
-use Rattle.lx_run.specs.Refusals.{Refused as RefusedAt}
+use Rattle.lx_update.specs.Lines.{deferred_run, drafted}
+use Rattle.lx_update.specs.Refusals.{Refused as RefusedAt}
 use Rattle.lx_editor.specs.declared.outcome.Outcome.{Outcome}
 use Rattle.lx_editor.specs.declared.outcome.Outcome.TheVariants.{Gathered, Refused}
 use Rattle.lx_editor.specs.declared.pending.Pending.{Pending}

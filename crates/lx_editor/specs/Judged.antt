@@ -16,10 +16,10 @@ use Rattle.lx_history.specs.History.{entry_of}
 use Rattle.lx_forest.specs.Covered.{Marking, AreCovered}
 use Rattle.lx_reconcile.specs.Told.{Told}
 use Rattle.lx_reconcile.specs.Allowing.{marking, IsAllowed}
-use Rattle.lx_run.specs.declared.ending.Ending.{Ending}
-use Rattle.lx_run.specs.declared.ending.Ending.TheVariants as ending
-use Rattle.lx_run.specs.declared.refusal.Refusal.{Refusal}
-use Rattle.lx_run.specs.declared.refusal.Refusal.TheVariants as refusal
+use Rattle.lx_update.specs.declared.ending.Ending.{Ending}
+use Rattle.lx_update.specs.declared.ending.Ending.TheVariants as ending
+use Rattle.lx_update.specs.declared.refusal.Refusal.{Refusal}
+use Rattle.lx_update.specs.declared.refusal.Refusal.TheVariants as refusal
 use Rattle.lx_editor.specs.declared.outcome.Outcome.{Outcome}
 use Rattle.lx_editor.specs.declared.outcome.Outcome.TheVariants as made
 use Rattle.lx_editor.specs.declared.outcome.Verdict.{Verdict}

@@ -20,8 +20,8 @@ use Rattle.lx_draft.specs.Faults.{over, after}
 use Rattle.lx_draft.specs.declared.state.Frozen.{Frozen}
 use Rattle.lx_draft.specs.declared.state.State.{State}
 use Rattle.lx_history.specs.History.{History, noted}
-use Rattle.lx_run.specs.Lines.{steps_run, drafted}
-use Rattle.lx_run.specs.Refusals.{and_then}
+use Rattle.lx_update.specs.Lines.{steps_run, drafted}
+use Rattle.lx_update.specs.Refusals.{and_then}
 use Rattle.lx_rules.specs.Answers.{Answers}
 use Rattle.lx_rules.specs.AnyRules.{any_rows, any_acts}
 use Rattle.lx_rules.specs.declared.any_rule.AnyRule.{AnyRule}

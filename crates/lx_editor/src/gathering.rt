@@ -9,8 +9,8 @@ use crate::recording::Recording;
 use crate::saying::{Outcomes, Saying, say_refusal};
 use lx_draft::Draft;
 use lx_node::NoMemory;
-use lx_run::{Refusal, run_deferred};
 use lx_step::{Step, Tags};
+use lx_update::{Refusal, run_deferred};
 use std::alloc::Global;
 
 impl Editor {
@@ -18,7 +18,7 @@ impl Editor {
     ghost use Rattle.lx_step.specs.Lines.{both_tags};
     ghost use Rattle.lx_step.specs.Sound.{IsSound};
     ghost use Rattle.lx_draft.specs.Covering.{AreCovered};
-    ghost use Rattle.lx_run.specs.Refusals.{TellsRefusal};
+    ghost use Rattle.lx_update.specs.Refusals.{TellsRefusal};
     ghost use Rattle.lx_editor.specs.declared.outcome.Outcome.{Outcome as OutcomeOf};
     ghost use Rattle.lx_editor.specs.Gathering.{started_of, pending_of, begun, with_nothing_pending, with_pending, with_line, recording, recording_all, gathered_by, IsPending, IsDeferred};
     ghost use Rattle.lx_editor.specs.Updated.{IsFlushed};

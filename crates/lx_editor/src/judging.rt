@@ -7,7 +7,7 @@ ghost use Rattle.lx_draft.specs.Covering as drafts;
 ghost use Rattle.lx_draft.specs.Faults.{TellsStep};
 ghost use Rattle.lx_draft.specs.Working.{Working};
 ghost use Rattle.lx_rules.specs.declared.any_rule.AnyRule.{AnyRule as AnyRuleOf};
-ghost use Rattle.lx_run.specs.Refusals.{TellsRefusal};
+ghost use Rattle.lx_update.specs.Refusals.{TellsRefusal};
 ghost use Rattle.lx_editor.specs.Dispatched.{answer_by};
 ghost use Rattle.lx_editor.specs.Editor.{Editor as EditorOf};
 ghost use Rattle.lx_editor.specs.Gathering.{started_of};
@@ -24,8 +24,8 @@ use crate::outcome::Verdict;
 use crate::reconciling::reconcile;
 use lx_draft::{Draft, Frozen};
 use lx_node::{Cause, Fault, NoMemory};
-use lx_run::{Ending, Refusal, run_dispatch, run_steps};
 use lx_step::{Command, Step, TypeRow};
+use lx_update::{Ending, Refusal, run_dispatch, run_steps};
 use std::alloc::Global;
 
 /// The verdict that a refusal is.

@@ -1,7 +1,7 @@
 //! What a draft leaves for a commit.
 
 ghost use Rattle.std.specs.Prelude.{IfOk, IfErr};
-ghost use Rattle.lx_run.specs.Refusals.{TellsRefusal};
+ghost use Rattle.lx_update.specs.Refusals.{TellsRefusal};
 ghost use Rattle.lx_editor.specs.Updated.{left_of, rested_by};
 ghost use Rattle.lx_editor.specs.Judged.{IsLeftOf, IsLeftOfImport, LeavesAtRest, MayRest};
 
@@ -9,8 +9,8 @@ use lx_draft::{Draft, Frozen};
 use lx_list::number;
 use lx_node::Fault;
 use lx_rules::AnyRule;
-use lx_run::Refusal;
 use lx_settle::settle;
+use lx_update::Refusal;
 use std::alloc::Global;
 
 /// What a draft leaves for a commit: it comes to rest under the rules, its items get their numbers, and it is frozen. No step

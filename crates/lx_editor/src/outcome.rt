@@ -3,8 +3,8 @@ use lx_host::Ops;
 use lx_marks::Marks;
 use lx_node::Cause;
 use lx_reconcile::Batch;
-use lx_run::Refusal;
 use lx_step::Turn;
+use lx_update::Refusal;
 
 /// What a call made of an editor.
 #[derive(Debug, Drop)]
@@ -66,7 +66,7 @@ pub(crate) enum Verdict {
 impl Verdict {
     ghost use Rattle.std.specs.Prelude.{◌≡◌, ℕ, false, Option, IfOk, IfErr};
     ghost use Rattle.lx_node.specs.declared.cause.Cause.{Cause as CauseOf};
-    ghost use Rattle.lx_run.specs.declared.refusal.Refusal.TheVariants as why;
+    ghost use Rattle.lx_update.specs.declared.refusal.Refusal.TheVariants as why;
     ghost use Rattle.lx_editor.specs.declared.outcome.Verdict.TheVariants as verdicts;
     ghost use Rattle.lx_editor.specs.Judged.{is_refused};
 

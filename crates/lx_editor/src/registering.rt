@@ -13,8 +13,8 @@ use crate::saying::{Outcomes, Saying, say_refusal};
 use lx_draft::Draft;
 use lx_node::{Cause, NoMemory};
 use lx_rules::{AnyRule, CellParagraph, ListMerge};
-use lx_run::Refusal;
 use lx_step::{Rule, Tags, TypeRow};
+use lx_update::Refusal;
 use std::alloc::Global;
 
 /// The most rules that an editor has: 256 that were registered, and the two that are built in.
@@ -45,7 +45,7 @@ fn merged_at(moment: u64) -> Recording
 impl Editor {
     ghost use Rattle.std.specs.Prelude.{ℕ, ◌+◌, ◌<◌, ◌≤◌, false, Option, None, OnOk, OnErr, IfErr};
     ghost use Rattle.lx_node.specs.declared.cause.Cause.{Cause as CauseOf};
-    ghost use Rattle.lx_run.specs.declared.refusal.Refusal.TheVariants as why;
+    ghost use Rattle.lx_update.specs.declared.refusal.Refusal.TheVariants as why;
     ghost use Rattle.lx_editor.specs.declared.outcome.Outcome.{Outcome as OutcomeOf};
     ghost use Rattle.lx_editor.specs.declared.outcome.Verdict.{Verdict as VerdictOf};
     ghost use Rattle.lx_editor.specs.declared.outcome.Verdict.TheVariants as verdicts;

@@ -5,7 +5,7 @@ ghost use Rattle.lx_node.specs.Limits.{last_u32};
 ghost use Rattle.std.specs.Prelude.{[], ◌∷◌, ◌≡◌, ◌+◌, ◌<◌, ℕ, Bool, None, Option, IfOk};
 ghost use Rattle.lx_node.specs.declared.cause.Cause.{Cause as CauseOf};
 ghost use Rattle.lx_forest.specs.Lookups.{roots, IsForest};
-ghost use Rattle.lx_run.specs.declared.refusal.Refusal.TheVariants as why;
+ghost use Rattle.lx_update.specs.declared.refusal.Refusal.TheVariants as why;
 ghost use Rattle.lx_editor.specs.declared.outcome.Outcome.{Outcome as OutcomeOf};
 ghost use Rattle.lx_editor.specs.declared.outcome.Outcome.TheVariants as made;
 ghost use Rattle.lx_editor.specs.Editor.{Editor as EditorOf};
@@ -18,7 +18,7 @@ use lx_draft::State;
 use lx_marks::Marks;
 use lx_node::{Cause, NoMemory};
 use lx_reconcile::Batch;
-use lx_run::Refusal;
+use lx_update::Refusal;
 use std::alloc::Global;
 
 /// Who says what comes of a request.

@@ -81,7 +81,7 @@ fn put_caret(draft: &mut Draft, key: Key) -> Result<(), Fault>
 }
 
 /// A draft of a new document: one empty paragraph, and the caret in it.
-#[tactic(auto, using(lx_run::proofs::Composed::element_suits))]
+#[tactic(auto, using(lx_update::proofs::Composed::element_suits))]
 fn new_document(alloc: Global) -> Result<Draft, Fault>
     ensures there { IfOk result (λ draft. EachPoint (λ p. has p.key draft.forest ≡ true) draft.selection) }
 {

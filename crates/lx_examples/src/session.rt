@@ -12,9 +12,9 @@ use lx_clip::slice;
 use lx_draft::{Draft, Frozen, State};
 use lx_node::{Cause, Fault, Lost, NoMemory};
 use lx_reconcile::fresh;
-use lx_run::{Refusal, run_steps};
 use lx_script::{Reply, read_line, write_reply, write_slice};
 use lx_step::{Form, Line, Shown, Step};
+use lx_update::{Refusal, run_steps};
 use lx_value::Room;
 use std::alloc::Global;
 

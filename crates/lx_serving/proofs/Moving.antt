@@ -16,9 +16,9 @@ use Rattle.lx_forest.specs.Forest.{Forest}
 use Rattle.lx_reconcile.specs.Allowed.{Shows}
 use Rattle.lx_draft.specs.Working.{Working}
 use Rattle.lx_reconcile.specs.Told.{Told}
-use Rattle.lx_run.specs.Refusals.{Refused as RefusedAt}
-use Rattle.lx_run.specs.declared.ending.Ending.{Ending}
-use Rattle.lx_run.specs.declared.ending.Ending.TheVariants as ending
+use Rattle.lx_update.specs.Refusals.{Refused as RefusedAt}
+use Rattle.lx_update.specs.declared.ending.Ending.{Ending}
+use Rattle.lx_update.specs.declared.ending.Ending.TheVariants as ending
 use Rattle.lx_editor.specs.declared.outcome.Outcome.{Outcome}
 use Rattle.lx_editor.specs.declared.outcome.Outcome.TheVariants.{Committed, Gathered, Refused, Idle}
 use Rattle.lx_editor.specs.Editor.{Editor}

@@ -7,7 +7,7 @@ use std::alloc::Global;
 use std::test::Fail;
 
 /// Puts a paragraph, 1, below the root, with the text 2.
-#[tactic(auto, using(lx_run::proofs::Composed::element_suits, lx_run::proofs::Composed::text_suits))]
+#[tactic(auto, using(lx_update::proofs::Composed::element_suits, lx_update::proofs::Composed::text_suits))]
 fn fill(alloc: Global, draft: &mut Draft) -> Result<(), Fault> {
     let paragraph = draft.new_node(Kind::Paragraph, Fields::plain_element(alloc))?;
     let text = draft.new_node(Kind::Text, Fields::plain_text(alloc, "words")?)?;

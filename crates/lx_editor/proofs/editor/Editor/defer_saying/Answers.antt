@@ -1,5 +1,5 @@
 use Rattle.std.proofs.Common.{subst}
-use Rattle.lx_run.specs.Refusals.{TellsRefusal}
+use Rattle.lx_update.specs.Refusals.{TellsRefusal}
 use Rattle.lx_editor.specs.declared.outcome.Outcome.TheVariants as made
 use Rattle.lx_editor.specs.declared.pending.Pending.{Pending}
 use Rattle.lx_editor.specs.Gathering.{gathered_by}

@@ -1,6 +1,6 @@
 use Rattle.std.proofs.Common.{◌≡◌, Ok, sym, ap, subst}
-use Rattle.lx_run.specs.Lines.{drafted, steps_run}
-use Rattle.lx_run.specs.Refusals.{TellsRefusal}
+use Rattle.lx_update.specs.Lines.{drafted, steps_run}
+use Rattle.lx_update.specs.Refusals.{TellsRefusal}
 use Rattle.lx_editor.specs.Editor.{Editor}
 use Rattle.lx_editor.specs.Gathering.{started_of}
 use Rattle.lx_editor.specs.Updated.{left_by}

@@ -1,6 +1,6 @@
 use Rattle.std.proofs.Common.{ap, subst}
-use Rattle.lx_run.specs.Lines.{dispatch_run, IsEndingCovered}
-use Rattle.lx_run.specs.Refusals.{TellsRefusal}
+use Rattle.lx_update.specs.Lines.{dispatch_run, IsEndingCovered}
+use Rattle.lx_update.specs.Refusals.{TellsRefusal}
 use Rattle.lx_editor.specs.Editor.{Editor}
 use Rattle.lx_editor.specs.Gathering.{started_of}
 use Rattle.lx_editor.proofs.Judged.{answer_refused}

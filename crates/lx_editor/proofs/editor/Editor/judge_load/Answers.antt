@@ -2,7 +2,7 @@ use Rattle.std.proofs.Common.{◌≡◌, ◌∙◌, List, Ok, sym, ap, subst}
 use Rattle.serde_json.specs.View.{view}
 use Rattle.lx_draft.specs.Faults.{TellsStep}
 use Rattle.lx_rules.specs.declared.any_rule.AnyRule.{AnyRule}
-use Rattle.lx_run.specs.Refusals.{TellsRefusal}
+use Rattle.lx_update.specs.Refusals.{TellsRefusal}
 use Rattle.lx_json.specs.Importing.{imported, IsImported}
 use Rattle.lx_editor.specs.Editor.{Editor}
 use Rattle.lx_editor.specs.Standing.{IsValid}

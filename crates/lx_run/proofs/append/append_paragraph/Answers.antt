@@ -1,5 +1,0 @@
-use Rattle.lx_run.proofs.Composed.{element_suits}
-use Rattle.lx_run.proofs.append.append_paragraph.Goals as goal
-
-pub new_node-requires-clause-of_kind : goal.new_node-requires-clause-of_kind
-new_node-requires-clause-of_kind c = element_suits c.plain_element.result c.plain_element.ensures

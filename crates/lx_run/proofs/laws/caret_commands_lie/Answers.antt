@@ -1,5 +1,0 @@
-use Rattle.lx_run.proofs.Lying.{caret_commands_lie}
-use Rattle.lx_run.proofs.laws.caret_commands_lie.Goals as goal
-
-pub returns : goal.returns
-returns c = caret_commands_lie
