@@ -2,6 +2,7 @@
 use Rattle.std.proofs.Common.{◌≡◌, ℕ, true, false, ◌+◌, inl, inr, List, [], ◌∷◌, ◌++◌, length, refl, ap, subst, arith}
 use Rattle.lx_arguments.specs.declared.options.Generated.{Generated}
 use Rattle.lx_arguments.specs.declared.options.Mode.{Mode}
+use Rattle.lx_arguments.specs.declared.options.Options.{Options}
 use Rattle.lx_arguments.specs.declared.options.Mode.TheVariants.{Plain, Hub, Outline, Generate}
 use Rattle.lx_arguments.specs.Arguments.{are_taken, asked_for, delay_asked}
 use Rattle.lx_generator.specs.Sessions.{IsSummary}
@@ -10,7 +11,7 @@ use Rattle.lx_cli.specs.declared.status.Status.TheVariants.{Done, Usage, ReadFau
 use Rattle.lx_editor.specs.Follows.{Follows}
 use Rattle.lx_serving.specs.Served.{Served, FollowsIn, new_layer, with_nothing}
 use Rattle.lx_serving.proofs.Plain.{follows_plain}
-use Rattle.lx_cli.specs.Run.{begun_with, served_with, SourceSeen, SinkSeen, Seen, Ends, IsAnsweredRun, IsFrontOfReplies, IsRun, IsServedRun}
+use Rattle.lx_cli.specs.Run.{begun_with, beside_in, served_with, setup_of, SourceSeen, SinkSeen, Seen, Ends, IsAnsweredRun, IsFrontOfReplies, IsRun, IsServedRun}
 use Rattle.lx_cli.specs.Steps.{AreWritten, IsPieceCutOff}
 use Rattle.lx_cli.specs.Generating.{GeneratedEnds, IsGeneratedRun, RunsAsAsked, RunsBy, mode_for}
 use Rattle.lx_cli.proofs.Devices.{Appends-none, IsCounted-none, IsCounted-within}
@@ -66,9 +67,15 @@ answered_along A B goes status run p = record {
   complete = p.complete;
 }
 
+-- what the editor begins with, by the mode that the arguments ask for
+pub setup_asked : (options : Options) (mode : Mode) (words : List (List ℕ)) → options ≡ asked_for words → options.mode ≡ mode
+    → record { beside = beside_in mode; view = options.view; delay = options.delay } ≡ setup_of (asked_for words)
+setup_asked options mode words asked is =
+    ap (λ (m : Mode). record { beside = beside_in m; view = options.view; delay = options.delay }) (sym is) ∙ ap setup_of asked
+
 -- arguments that ask for no mode have nothing beside the editor
 served_plain : (words : List (List ℕ)) → (asked_for words).mode ≡ Plain → served_with words ≡ with_nothing (begun_with words)
-served_plain words is = ap (λ (m : Mode). record { editor = begun_with words; layer = new_layer m }) is
+served_plain words is = ap (λ (m : Mode). record { editor = begun_with words; layer = new_layer (beside_in m) }) is
 
 -- arguments that are taken, and ask for no mode
 pub RunsAsAsked-plain : (status : Status) (run : Seen) → are_taken run.words ≡ true → (asked_for run.words).mode ≡ Plain

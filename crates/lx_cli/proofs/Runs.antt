@@ -2,7 +2,7 @@
 use Rattle.std.proofs.Common.{◌≡◌, ◌≢◌, ℕ, true, false, ◌+◌, ◌<◌, ◌≤◌, ◌⊎◌, inl, inr, List, [], ◌++◌, length, take, sym, ap, ◌∙◌, refl, subst, length-append, arith}
 use Rattle.lx_node.specs.Limits.{last_u32}
 use Rattle.lx_io.specs.Devices.{Consumes, IsAtEnd, HasRisen, IsCounted, last_count}
-use Rattle.lx_arguments.specs.declared.options.Options.{Options}
+use Rattle.lx_serving.specs.declared.setup.Setup.{Setup}
 use Rattle.lx_arguments.specs.Arguments.{are_taken, asked_for}
 use Rattle.lx_serving.specs.Served.{Served, spent}
 use Rattle.lx_serving.proofs.Plain.{spent_new}
@@ -14,7 +14,7 @@ use Rattle.lx_cli.specs.declared.reading.Stop.TheVariants as stop
 use Rattle.lx_cli.specs.declared.status.Status.{Status}
 use Rattle.lx_cli.specs.declared.status.Status.TheVariants.{Done, Usage, ReadFault, Memory, InputTooLong}
 use Rattle.lx_cli.specs.Lines.{lines_ended, unended, last_line, lines_of}
-use Rattle.lx_cli.specs.Run.{served_with, input_limit, SourceSeen, SinkSeen, Seen, Ends, IsAnsweredRun, IsServedRun}
+use Rattle.lx_cli.specs.Run.{served_with, setup_of, input_limit, SourceSeen, SinkSeen, Seen, Ends, IsAnsweredRun, IsServedRun}
 use Rattle.lx_cli.specs.Steps.{AreAnswered, AreUnanswered, AreTaken, IsUnended, IsNew, Moment, IsEnd, IsBrokenOff, IsUnanswered, IsPastLimit, HasStopped, unanswered_status, stop_status}
 use Rattle.lx_cli.proofs.Lines.{IsUnended-none, length-ended-le}
 use Rattle.lx_cli.proofs.Devices.{Consumes-none, Appends-none, IsCounted-none, IsCounted-within, AreWritten-append}
@@ -82,11 +82,11 @@ IsAnsweredRun-usage AreReplies words q s refused = record {
   complete = λ taken faults short. absurd (cc);
 }
 
-pub IsUnended-new : (options : Options) (session : Session) → IsNew options session → IsUnended session.pending.items
+pub IsUnended-new : (setup : Setup) (session : Session) → IsNew setup session → IsUnended session.pending.items
 IsUnended-new options session new = subst IsUnended (sym new.pending) IsUnended-none
 
 -- there are numbers for a last line
-pub spent-end : (options : Options) (a b : Moment) (read : List ℕ) → IsNew options a.session → IsEnd input_limit read a b → spent b.session.served < last_u32
+pub spent-end : (setup : Setup) (a b : Moment) (read : List ℕ) → IsNew setup a.session → IsEnd input_limit read a b → spent b.session.served < last_u32
 spent-end options a b read new p =
     let waits = a.session.pending.items in
     omega (
@@ -105,16 +105,16 @@ module _ (words : List (List ℕ)) (is_taken : are_taken words ≡ true) where
   Ran status read q r s t = (written : List ℕ) × IsServedRun status (worded words read written q r s t)
 
   -- what is taken in a run from its begin
-  taken_new : (a b : Session) (s t : SinkSeen) (bytes : List ℕ) → IsNew (asked_for words) a → AreTaken bytes a b s t
+  taken_new : (a b : Session) (s t : SinkSeen) (bytes : List ℕ) → IsNew (setup_of (asked_for words)) a → AreTaken bytes a b s t
       → AreAnswered (lines_ended bytes) (served_with words) b.served s t
   taken_new a b s t bytes new p =
       subst (λ (served : Served). AreAnswered (lines_ended bytes) served b.served s t) new.served
       (subst (λ (waits : List ℕ). AreAnswered (lines_ended (waits ++ bytes)) a.served b.served s t) new.pending p.answered)
 
-  waiting_new : (a b : Session) (s t : SinkSeen) (bytes : List ℕ) → IsNew (asked_for words) a → AreTaken bytes a b s t → b.pending.items ≡ unended bytes
+  waiting_new : (a b : Session) (s t : SinkSeen) (bytes : List ℕ) → IsNew (setup_of (asked_for words)) a → AreTaken bytes a b s t → b.pending.items ≡ unended bytes
   waiting_new a b s t bytes new p = p.waiting ∙ ap (λ waits. unended (waits ++ bytes)) new.pending
 
-  pub Ran-done : (a b : Moment) (end : Served) (t : SinkSeen) (read : List ℕ) → IsNew (asked_for words) a.session → IsEnd input_limit read a b
+  pub Ran-done : (a b : Moment) (end : Served) (t : SinkSeen) (read : List ℕ) → IsNew (setup_of (asked_for words)) a.session → IsEnd input_limit read a b
       → AreAnswered (last_line b.session.pending.items) b.session.served end b.sink t
       → Ran Done read a.source b.source a.sink t
   unfolding Ends
@@ -147,7 +147,7 @@ module _ (words : List (List ℕ)) (is_taken : are_taken words ≡ true) where
         },
       )
 
-  pub Ran-read_fault : (a b : Moment) (read : List ℕ) → IsNew (asked_for words) a.session → IsBrokenOff input_limit read a b
+  pub Ran-read_fault : (a b : Moment) (read : List ℕ) → IsNew (setup_of (asked_for words)) a.session → IsBrokenOff input_limit read a b
       → Ran ReadFault read a.source b.source a.sink b.sink
   unfolding Ends
   Ran-read_fault a b read new p =
@@ -170,7 +170,7 @@ module _ (words : List (List ℕ)) (is_taken : are_taken words ≡ true) where
         },
       )
 
-  pub Ran-too_long : (a b : Moment) (read : List ℕ) → IsNew (asked_for words) a.session → IsPastLimit input_limit read a b
+  pub Ran-too_long : (a b : Moment) (read : List ℕ) → IsNew (setup_of (asked_for words)) a.session → IsPastLimit input_limit read a b
       → Ran InputTooLong read a.source b.source a.sink b.sink
   unfolding Ends
   Ran-too_long a b read new p =
@@ -223,7 +223,7 @@ module _ (words : List (List ℕ)) (is_taken : are_taken words ≡ true) where
   )
 
   -- where a line that had ended is not answered
-  pub Ran-unanswered : (why : Unanswered) (a b : Moment) (read : List ℕ) → IsNew (asked_for words) a.session → IsUnanswered why input_limit read a b
+  pub Ran-unanswered : (why : Unanswered) (a b : Moment) (read : List ℕ) → IsNew (setup_of (asked_for words)) a.session → IsUnanswered why input_limit read a b
       → Ran (unanswered_status why) read a.source b.source a.sink b.sink
   Ran-unanswered why a b read new p =
       let may = take input_limit read in
@@ -235,7 +235,7 @@ module _ (words : List (List ℕ)) (is_taken : are_taken words ≡ true) where
       (inl refl) lines
 
   -- where the last line is not answered
-  pub Ran-last_unanswered : (why : Unanswered) (a b : Moment) (t : SinkSeen) (read : List ℕ) → IsNew (asked_for words) a.session → IsEnd input_limit read a b
+  pub Ran-last_unanswered : (why : Unanswered) (a b : Moment) (t : SinkSeen) (read : List ℕ) → IsNew (setup_of (asked_for words)) a.session → IsEnd input_limit read a b
       → AreUnanswered why (last_line b.session.pending.items) b.session.served b.sink t
       → Ran (unanswered_status why) read a.source b.source a.sink t
   Ran-last_unanswered why a b t read new p q =
@@ -247,7 +247,7 @@ module _ (words : List (List ℕ)) (is_taken : are_taken words ≡ true) where
       (inr (p.source.at_end, p.within, refl))
       (AreUnanswered-append why (served_with words) b.session.served a.sink b.sink t (lines_ended read) (last_line (unended read)) lines last)
 
-  stopped : (why : Stop) (a b : Moment) → IsNew (asked_for words) a.session → why ≢ stop.End → HasStopped why input_limit a b
+  stopped : (why : Stop) (a b : Moment) → IsNew (setup_of (asked_for words)) a.session → why ≢ stop.End → HasStopped why input_limit a b
       → (read written : List ℕ) × IsServedRun (stop_status why) (worded words read written a.source b.source a.sink b.sink)
   stopped stop.End a b new early p = absurd (early refl)
   stopped stop.ReadFault a b new early p = let run = Ran-read_fault a b p.bytes new p.stops in (p.bytes, run.0, run.1)
@@ -256,19 +256,19 @@ module _ (words : List (List ℕ)) (is_taken : are_taken words ≡ true) where
   stopped stop.TooLong a b new early p = let run = Ran-too_long a b p.bytes new p.stops in (p.bytes, run.0, run.1)
 
   -- where no more was read before the end
-  pub HasRun-stopped : (r : Status) (why : Stop) (a b : Moment) → r ≡ stop_status why → IsNew (asked_for words) a.session → why ≢ stop.End
+  pub HasRun-stopped : (r : Status) (why : Stop) (a b : Moment) → r ≡ stop_status why → IsNew (setup_of (asked_for words)) a.session → why ≢ stop.End
       → HasStopped why input_limit a b
       → (read written : List ℕ) × IsServedRun r (worded words read written a.source b.source a.sink b.sink)
   HasRun-stopped r why a b is new early p =
       subst (λ (r : Status). (read written : List ℕ) × IsServedRun r (worded words read written a.source b.source a.sink b.sink)) (sym is)
       (stopped why a b new early p)
 
-  pub HasRun-done : (a b : Moment) (end : Served) (t : SinkSeen) → IsNew (asked_for words) a.session → HasStopped stop.End input_limit a b
+  pub HasRun-done : (a b : Moment) (end : Served) (t : SinkSeen) → IsNew (setup_of (asked_for words)) a.session → HasStopped stop.End input_limit a b
       → AreAnswered (last_line b.session.pending.items) b.session.served end b.sink t
       → (read written : List ℕ) × IsServedRun Done (worded words read written a.source b.source a.sink t)
   HasRun-done a b end t new p q = let run = Ran-done a b end t p.bytes new p.stops q in (p.bytes, run.0, run.1)
 
-  pub HasRun-last_unanswered : (r : Status) (why : Unanswered) (a b : Moment) (t : SinkSeen) → r ≡ unanswered_status why → IsNew (asked_for words) a.session
+  pub HasRun-last_unanswered : (r : Status) (why : Unanswered) (a b : Moment) (t : SinkSeen) → r ≡ unanswered_status why → IsNew (setup_of (asked_for words)) a.session
       → HasStopped stop.End input_limit a b
       → AreUnanswered why (last_line b.session.pending.items) b.session.served b.sink t
       → (read written : List ℕ) × IsServedRun r (worded words read written a.source b.source a.sink t)

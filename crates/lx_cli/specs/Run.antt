@@ -4,7 +4,13 @@ use Rattle.lx_io.specs.Devices.{Consumes, Appends, IsAtEnd, HasRisen, IsCounted,
 use Rattle.lx_editor.specs.Editor.{Editor, new_editor}
 use Rattle.lx_editor.specs.Follows.{Follows}
 use Rattle.lx_arguments.specs.Arguments.{are_taken, asked_for, asks_view, delay_asked}
+use Rattle.lx_arguments.specs.declared.options.Mode.{Mode}
+use Rattle.lx_arguments.specs.declared.options.Mode.TheVariants.{Plain, Hub, Outline, Generate}
+use Rattle.lx_arguments.specs.declared.options.Options.{Options}
 use Rattle.lx_serving.specs.Served.{Served, FollowsIn, new_served}
+use Rattle.lx_serving.specs.declared.setup.Setup.{Setup}
+use Rattle.lx_serving.specs.declared.setup.Beside.{Beside}
+use Rattle.lx_serving.specs.declared.setup.Beside.TheVariants as beside
 use Rattle.lx_cli.specs.Lines.{lines_ended, lines_of}
 use Rattle.lx_cli.specs.declared.status.Status.{Status}
 use Rattle.lx_cli.specs.declared.status.Status.TheVariants.{Done, Usage, ReadFault, WriteFault, Memory, InputTooLong}
@@ -14,9 +20,20 @@ use Rattle.lx_cli.specs.declared.status.Status.TheVariants.{Done, Usage, ReadFau
 abbrev pub begun_with : List (List ℕ) → Editor
 begun_with words = new_editor (asks_view words) (delay_asked words)
 
+-- what is kept beside the editor in a mode; beside a session that is generated nothing is
+abbrev pub beside_in : Mode → Beside
+beside_in Plain = beside.Nothing
+beside_in Hub = beside.Hub
+beside_in Outline = beside.Outline
+beside_in (Generate session) = beside.Nothing
+
+-- what the editor begins with, by what is asked for
+abbrev pub setup_of : Options → Setup
+setup_of options = record { beside = beside_in options.mode; view = options.view; delay = options.delay }
+
 -- the editor that a run begins with, and what is beside it in the mode that the arguments ask for
 abbrev pub served_with : List (List ℕ) → Served
-served_with words = new_served (asked_for words)
+served_with words = new_served (setup_of (asked_for words))
 
 -- the most bytes that the input may have
 abbrev pub input_limit : ℕ

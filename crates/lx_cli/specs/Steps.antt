@@ -2,7 +2,7 @@
 use Rattle.std.specs.Prelude.{◌≡◌, ℕ, ◌+◌, ◌<◌, ◌≤◌, List, [], ◌++◌, length, take, Result, Ok, Err}
 use Rattle.lx_io.specs.Devices.{Consumes, Appends, IsAtEnd, HasRisen, IsCounted}
 use Rattle.lx_io.specs.declared.fault.Failed.{Failed}
-use Rattle.lx_arguments.specs.declared.options.Options.{Options}
+use Rattle.lx_serving.specs.declared.setup.Setup.{Setup}
 use Rattle.lx_serving.specs.Served.{Served, FollowsIn, FollowsInTo, new_served, spent}
 use Rattle.lx_cli.specs.declared.session.Session.{Session}
 use Rattle.lx_cli.specs.declared.session.Unanswered.{Unanswered}
@@ -67,9 +67,9 @@ abbrev pub LinesEnd : Result Unit Unanswered → List (List ℕ) → Served → 
 LinesEnd (Ok done) lines old new sink_old sink_new = AreAnswered lines old new sink_old sink_new
 LinesEnd (Err why) lines old new sink_old sink_new = AreUnanswered why lines old sink_old sink_new
 
--- a session of a run that begins, with these options
-pub record IsNew (options : Options) (session : Session) : Type 0 where
-  pub served : session.served ≡ new_served options
+-- a session of a run that begins, with what its editor begins with
+pub record IsNew (setup : Setup) (session : Session) : Type 0 where
+  pub served : session.served ≡ new_served setup
   pub pending : session.pending.items ≡ []
 
 -- no line end is among these bytes

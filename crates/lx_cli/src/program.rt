@@ -1,7 +1,7 @@
 ghost use Rattle.std.specs.Prelude.{◌≡◌, ◌<◌, ◌≤◌, true, ℕ, List, [], length, map, string_bytes};
 ghost use Rattle.lx_arguments.specs.Arguments.{are_taken, asked_for, delay_asked};
-ghost use Rattle.lx_arguments.specs.declared.options.Options.{Options as OptionsOf};
-ghost use Rattle.lx_cli.specs.Run.{SourceSeen, source_seen, sink_seen, IsServedRun};
+ghost use Rattle.lx_serving.specs.declared.setup.Setup.{Setup as SetupOf};
+ghost use Rattle.lx_cli.specs.Run.{SourceSeen, source_seen, setup_of, sink_seen, IsServedRun};
 ghost use Rattle.lx_cli.specs.Generating.{IsGeneratedRun, RunsAsAsked};
 ghost use Rattle.lx_cli.specs.Steps.{IsNew};
 
@@ -13,6 +13,7 @@ use lx_arguments::{Generated, Mode, Options, Refused, options_of};
 use lx_generator::tell_session;
 use lx_io::{Failed, Sink, Source};
 use lx_node::NoMemory;
+use lx_serving::{Beside, Setup};
 use std::alloc::Global;
 
 /// Runs the program: answers each line of the source into the sink. The arguments are those of the command line after
@@ -41,13 +42,24 @@ pub fn run<S: Source, K: Sink>(
 {
     match options_of(alloc, words) {
         Ok(options) => match options.mode {
-            Mode::Plain => serve(alloc, options, source, sink),
-            Mode::Hub => serve(alloc, options, source, sink),
-            Mode::Outline => serve(alloc, options, source, sink),
+            Mode::Plain => serve(alloc, setup(options, Beside::Nothing), source, sink),
+            Mode::Hub => serve(alloc, setup(options, Beside::Hub), source, sink),
+            Mode::Outline => serve(alloc, setup(options, Beside::Outline), source, sink),
             Mode::Generate(session) => generate(alloc, session, options.delay, sink),
         },
         Err(Refused::Usage) => Status::Usage,
         Err(Refused::Memory) => Status::Memory,
+    }
+}
+
+/// What the editor begins with, by what is asked for and what is to be beside it.
+fn setup(options: Options, beside: Beside) -> Setup
+    ensures { result ≡ record { beside = beside; view = options.view; delay = options.delay } }
+{
+    Setup {
+        beside,
+        view: options.view,
+        delay: options.delay,
     }
 }
 
@@ -79,13 +91,8 @@ fn generate<K: Sink>(alloc: Global, session: Generated, delay: u32, sink: &mut K
 }
 
 /// Answers the lines of the source, if there is memory to begin.
-fn serve<S: Source, K: Sink>(
-    alloc: Global,
-    options: Options,
-    source: &mut S,
-    sink: &mut K,
-) -> Status
-    ensures { (words : List (List ℕ)) → are_taken words ≡ true → options ≡ asked_for words → (read written : List ℕ) × IsServedRun result (record {
+fn serve<S: Source, K: Sink>(alloc: Global, setup: Setup, source: &mut S, sink: &mut K) -> Status
+    ensures { (words : List (List ℕ)) → are_taken words ≡ true → setup ≡ setup_of (asked_for words) → (read written : List ℕ) × IsServedRun result (record {
       words = words;
       read = read;
       written = written;
@@ -95,7 +102,7 @@ fn serve<S: Source, K: Sink>(
       sink_after = sink_seen K.taken K.faults K.writes sink.new;
     }) }
 {
-    let mut session = match Session::new(alloc, options) {
+    let mut session = match Session::new(alloc, setup) {
         Ok(session) => session,
         Err(_) => return Status::Memory,
     };
@@ -113,9 +120,9 @@ fn answer_all<S: Source, K: Sink>(
     source: &mut S,
     sink: &mut K,
 ) -> Status
-    requires session { (options : OptionsOf) × IsNew options session.old }
+    requires session { (setup : SetupOf) × IsNew setup session.old }
     requires buffer { 0 < length buffer.old }
-    ensures { (words : List (List ℕ)) → are_taken words ≡ true → IsNew (asked_for words) session.old → (read written : List ℕ) × IsServedRun result (record {
+    ensures { (words : List (List ℕ)) → are_taken words ≡ true → IsNew (setup_of (asked_for words)) session.old → (read written : List ℕ) × IsServedRun result (record {
       words = words;
       read = read;
       written = written;

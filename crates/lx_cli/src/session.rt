@@ -1,9 +1,8 @@
 use crate::status::Status;
 use crate::writing::write_all;
-use lx_arguments::Options;
 use lx_io::{Failed, Sink};
 use lx_node::NoMemory;
-use lx_serving::Served;
+use lx_serving::{Served, Setup};
 use lx_value::Room;
 use memchr::memchr;
 use std::alloc::Global;
@@ -53,15 +52,15 @@ impl Session {
     ghost use Rattle.lx_cli.specs.Run.{sink_seen};
     ghost use Rattle.lx_cli.specs.Steps.{IsNew, LinesEnd, BytesEnd, IsUnended};
 
-    /// A new editor with what these options ask for, and no bytes.
-    pub(crate) fn new(alloc: Global, options: Options) -> Result<Session, NoMemory>
-        ensures { IfOk result (IsNew options) }
+    /// A new editor with what is to be beside it, and no bytes.
+    pub(crate) fn new(alloc: Global, setup: Setup) -> Result<Session, NoMemory>
+        ensures { IfOk result (IsNew setup) }
     {
         let room = match Room::new(alloc) {
             Ok(room) => room,
             Err(_) => return Err(NoMemory),
         };
-        match Served::new(alloc, options) {
+        match Served::new(alloc, setup) {
             Ok(served) => Ok(Session {
                 alloc,
                 served,

@@ -1,8 +1,8 @@
 -- An editor with nothing beside it answers as it does alone; and what a new one has spent.
 use Rattle.std.proofs.Common.{◌≡◌, ap, sym, subst, refl, ℕ, ◌+◌, List, [], ◌∷◌}
-use Rattle.lx_arguments.specs.declared.options.Options.{Options}
-use Rattle.lx_arguments.specs.declared.options.Mode.{Mode}
-use Rattle.lx_arguments.specs.declared.options.Mode.TheVariants as mode
+use Rattle.lx_serving.specs.declared.setup.Setup.{Setup}
+use Rattle.lx_serving.specs.declared.setup.Beside.{Beside}
+use Rattle.lx_serving.specs.declared.setup.Beside.TheVariants as beside
 use Rattle.lx_editor.specs.Editor.{Editor}
 use Rattle.lx_editor.specs.Follows.{Answers, Follows}
 use Rattle.lx_serving.specs.declared.layer.Layer.{Layer}
@@ -44,11 +44,10 @@ answered_plain old new l line bytes is answers =
 
 -- ---- what is spent
 
-none_made : (m : Mode) → made_in (new_layer m) ≡ 0
-none_made mode.Plain = refl
-none_made mode.Hub = refl
-none_made mode.Outline = refl
-none_made (mode.Generate session) = refl
+none_made : (b : Beside) → made_in (new_layer b) ≡ 0
+none_made beside.Nothing = refl
+none_made beside.Hub = refl
+none_made beside.Outline = refl
 
-pub spent_new : (options : Options) → spent (new_served options) ≡ 0
-spent_new options = ap (λ n. 0 + n) (none_made options.mode)
+pub spent_new : (setup : Setup) → spent (new_served setup) ≡ 0
+spent_new setup = ap (λ n. 0 + n) (none_made setup.beside)

@@ -6,8 +6,8 @@ use Rattle.lx_host.specs.Hosts.{HostTree, new_tree}
 use Rattle.lx_node.specs.Kinds.{is_text_block}
 use Rattle.lx_forest.specs.Forest.{Forest, root_alone}
 use Rattle.lx_reconcile.specs.Allowed.{Shows}
-use Rattle.lx_arguments.specs.declared.options.Options.{Options}
-use Rattle.lx_arguments.specs.declared.options.Mode.TheVariants as mode
+use Rattle.lx_serving.specs.declared.setup.Setup.{Setup}
+use Rattle.lx_serving.specs.declared.setup.Beside.TheVariants as beside
 use Rattle.lx_editor.specs.Editor.{Editor}
 use Rattle.lx_hub.specs.Hub.{View, Hub, effects, new_hub, published}
 use Rattle.lx_hub.specs.Standing.{all_effects}
@@ -207,8 +207,8 @@ unfolding is_text_block
 root_shown = refl
 
 -- before the first line
-begin : (options : Options) → options.mode ≡ mode.Hub → IsAlong (new_served options) []
-begin options is = record {
+begin : (setup : Setup) → setup.beside ≡ beside.Hub → IsAlong (new_served setup) []
+begin setup is = record {
   hub = new_hub;
   beside = ap new_layer is;
   events = [];
@@ -246,7 +246,7 @@ shown_along lag s earlier along =
     views_of s.layer along.hub all along.beside
     (subst (λ (h : Hub). AllByRecursion (λ (v : View). SomeServed (IsOfCommit v) all) h.views) (sym along.made) shown)
 
-pub shown : ((es : List Event) → Lag es) → (options : Options) (lines : List (List ℕ)) (bytes : List ℕ) (s : Served) (earlier : List Served)
-    → options.mode ≡ mode.Hub → LeadsThrough (new_served options) lines bytes [] (s ∷ earlier) → ViewsShow (s ∷ earlier) s.layer
-shown lag options lines bytes s earlier is p =
-    shown_along lag s earlier (all_steps (new_served options) lines bytes [] s earlier p (begin options is))
+pub shown : ((es : List Event) → Lag es) → (setup : Setup) (lines : List (List ℕ)) (bytes : List ℕ) (s : Served) (earlier : List Served)
+    → setup.beside ≡ beside.Hub → LeadsThrough (new_served setup) lines bytes [] (s ∷ earlier) → ViewsShow (s ∷ earlier) s.layer
+shown lag setup lines bytes s earlier is p =
+    shown_along lag s earlier (all_steps (new_served setup) lines bytes [] s earlier p (begin setup is))

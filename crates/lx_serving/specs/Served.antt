@@ -8,9 +8,9 @@ use Rattle.lx_editor.specs.Follows.{Answers, IsLeftWithout}
 use Rattle.lx_hub.specs.Hub.{Hub, new_hub, published}
 use Rattle.lx_outline.specs.Events.{AreEvents}
 use Rattle.lx_outline.specs.Outline.{IsOutlineOf}
-use Rattle.lx_arguments.specs.declared.options.Options.{Options}
-use Rattle.lx_arguments.specs.declared.options.Mode.{Mode}
-use Rattle.lx_arguments.specs.declared.options.Mode.TheVariants as mode
+use Rattle.lx_serving.specs.declared.setup.Setup.{Setup}
+use Rattle.lx_serving.specs.declared.setup.Beside.{Beside}
+use Rattle.lx_serving.specs.declared.setup.Beside.TheVariants as beside
 use Rattle.lx_serving.specs.declared.layer.Layer.{Layer}
 use Rattle.lx_serving.specs.declared.layer.Layer.TheVariants as layer
 use Rattle.lx_serving.specs.Asked.{IsOwn, IsOther}
@@ -34,16 +34,15 @@ with_hub e h = record { editor = e; layer = layer.Hub h }
 abbrev pub with_outline : Editor → OutlinedView → Served
 with_outline e o = record { editor = e; layer = layer.Outline o }
 
--- what is beside a new editor in a mode; a session that is generated has nothing there
-abbrev pub new_layer : Mode → Layer
-new_layer mode.Plain = layer.Plain
-new_layer mode.Hub = layer.Hub new_hub
-new_layer mode.Outline = layer.Outline new_outlined
-new_layer (mode.Generate session) = layer.Plain
+-- what is beside a new editor
+abbrev pub new_layer : Beside → Layer
+new_layer beside.Nothing = layer.Plain
+new_layer beside.Hub = layer.Hub new_hub
+new_layer beside.Outline = layer.Outline new_outlined
 
--- a new editor with what is beside it, by options
-abbrev pub new_served : Options → Served
-new_served options = record { editor = new_editor options.view options.delay; layer = new_layer options.mode }
+-- a new editor with what is beside it
+abbrev pub new_served : Setup → Served
+new_served setup = record { editor = new_editor setup.view setup.delay; layer = new_layer setup.beside }
 
 -- ---- a hub beside an editor
 

@@ -1,6 +1,6 @@
 ghost use Rattle.std.specs.Prelude.{◌≡◌, ℕ, List, [], ◌∷◌};
-ghost use Rattle.lx_arguments.specs.declared.options.Mode.TheVariants as mode;
-ghost use Rattle.lx_arguments.specs.declared.options.Options.{Options};
+ghost use Rattle.lx_serving.specs.declared.setup.Beside.TheVariants as beside;
+ghost use Rattle.lx_serving.specs.declared.setup.Setup.{Setup};
 ghost use Rattle.lx_serving.specs.Served.{Served, FollowsInTo, new_served};
 ghost use Rattle.lx_serving.specs.Shown.{LeadsThrough, ViewsShow};
 
@@ -12,8 +12,8 @@ use lx_hub::views_lag;
 pub fn views_show()
     ensures led { (old s : Served) (lines : List (List ℕ)) (bytes : List ℕ) → FollowsInTo old lines bytes s
         → (earlier : List Served) × LeadsThrough old lines bytes [] (s ∷ earlier) }
-    ensures shown { (options : Options) (lines : List (List ℕ)) (bytes : List ℕ) (s : Served) (earlier : List Served) → options.mode ≡ mode.Hub
-        → LeadsThrough (new_served options) lines bytes [] (s ∷ earlier) → ViewsShow (s ∷ earlier) s.layer }
+    ensures shown { (setup : Setup) (lines : List (List ℕ)) (bytes : List ℕ) (s : Served) (earlier : List Served) → setup.beside ≡ beside.Hub
+        → LeadsThrough (new_served setup) lines bytes [] (s ∷ earlier) → ViewsShow (s ∷ earlier) s.layer }
 {
     views_lag();
 }

@@ -1,5 +1,5 @@
 use crate::outlined::Outlined;
-use lx_arguments::Mode;
+use crate::setup::Beside;
 use lx_hub::Hub;
 use lx_node::NoMemory;
 use std::alloc::Global;
@@ -24,15 +24,15 @@ impl Layer {
     ghost use Rattle.lx_serving.specs.Served.{IsBeside, new_layer};
     ghost use Rattle.lx_serving.specs.declared.layer.Layer.TheVariants as layer;
 
-    /// What is beside a new editor in a mode.
-    pub(crate) fn new(alloc: Global, mode: Mode) -> Result<Layer, NoMemory>
-        ensures made { IfOk result (λ made. made ≡ new_layer mode) }
-        ensures beside { OnOk result ((view : Bool) (delay : ℕ) → IsBeside (new_editor view delay) (new_layer mode)) }
+    /// What is beside a new editor.
+    pub(crate) fn new(alloc: Global, beside: Beside) -> Result<Layer, NoMemory>
+        ensures made { IfOk result (λ made. made ≡ new_layer beside) }
+        ensures beside { OnOk result ((view : Bool) (delay : ℕ) → IsBeside (new_editor view delay) (new_layer beside)) }
     {
-        match mode {
-            Mode::Hub => Ok(Layer::Hub(Hub::new(alloc)?)),
-            Mode::Outline => Ok(Layer::Outline(Outlined::new(alloc)?)),
-            Mode::Plain | Mode::Generate(_) => Ok(Layer::Plain),
+        match beside {
+            Beside::Nothing => Ok(Layer::Plain),
+            Beside::Hub => Ok(Layer::Hub(Hub::new(alloc)?)),
+            Beside::Outline => Ok(Layer::Outline(Outlined::new(alloc)?)),
         }
     }
 

@@ -1,7 +1,7 @@
 use crate::layer::Layer;
 use crate::noting::answer_beside_outline;
 use crate::passing::answer_beside;
-use lx_arguments::Options;
+use crate::setup::Setup;
 use lx_editor::{Editor, answer_line};
 use lx_node::NoMemory;
 use lx_value::Room;
@@ -44,13 +44,12 @@ impl Served {
     ghost use Rattle.lx_node.specs.Limits.{last_u32};
     ghost use Rattle.lx_serving.specs.Served.{AnswersIn, IsLeftIn, new_served, spent};
 
-    /// A new editor, and what is beside it in the mode that is asked for: a new hub for `Mode::Hub`, the outline of the
-    /// new editor's tree for `Mode::Outline`, and else nothing.
-    pub fn new(alloc: Global, options: Options) -> Result<Served, NoMemory>
-        ensures { IfOk result (λ made. made ≡ new_served options) }
+    /// A new editor, and what is to be kept beside it: a new hub, the outline of the new editor's tree, or nothing.
+    pub fn new(alloc: Global, setup: Setup) -> Result<Served, NoMemory>
+        ensures { IfOk result (λ made. made ≡ new_served setup) }
     {
-        let layer = Layer::new(alloc, options.mode)?;
-        let editor = Editor::new(alloc, options.view, options.delay as u64)?;
+        let layer = Layer::new(alloc, setup.beside)?;
+        let editor = Editor::new(alloc, setup.view, setup.delay as u64)?;
         Ok(Served { editor, layer })
     }
 

@@ -5,7 +5,7 @@ use Rattle.lx_arguments.specs.Arguments.{asked_for}
 use Rattle.lx_editor.specs.Follows.{Follows}
 use Rattle.lx_cli.specs.Run.{begun_with, source_seen, sink_seen}
 use Rattle.lx_cli.proofs.Runs.{IsAnsweredRun-usage, worded}
-use Rattle.lx_cli.proofs.Generating.{RunsAsAsked-none, RunsAsAsked-plain, RunsAsAsked-refused, RunsAsAsked-taken}
+use Rattle.lx_cli.proofs.Generating.{RunsAsAsked-none, RunsAsAsked-plain, RunsAsAsked-refused, RunsAsAsked-taken, setup_asked}
 use Rattle.lx_cli.proofs.program.run.Goals as goal
 
 pub generate-requires : goal.generate-requires
@@ -17,7 +17,7 @@ returns-in-Plain g c =
     let taken = c.in-Ok.ensures.ok.0 in
     let asked = c.in-Ok.ensures.ok.1 in
     let plain : (asked_for words).mode ≡ Plain = ap (λ (o : Options). o.mode) (sym asked) ∙ c.in-Plain.is in
-    let run = c.serve.ensures words taken asked in
+    let run = c.serve.ensures words taken (c.setup.ensures ∙ setup_asked _ Plain words asked c.in-Plain.is) in
     (run.0, run.1, RunsAsAsked-plain c.serve.result _ taken plain run.2)
 
 pub returns-in-Hub : goal.returns-in-Hub
@@ -26,7 +26,7 @@ returns-in-Hub g c =
     let taken = c.in-Ok.ensures.ok.0 in
     let asked = c.in-Ok.ensures.ok.1 in
     let mode : (asked_for words).mode ≡ Hub = ap (λ (o : Options). o.mode) (sym asked) ∙ c.in-Hub.is in
-    let run = c.serve-in-Hub.ensures words taken asked in
+    let run = c.serve-in-Hub.ensures words taken (c.setup-in-Hub.ensures ∙ setup_asked _ Hub words asked c.in-Hub.is) in
     (run.0, run.1, RunsAsAsked-taken Hub c.serve-in-Hub.result _ taken mode run.2)
 
 pub returns-in-Outline : goal.returns-in-Outline
@@ -35,7 +35,7 @@ returns-in-Outline g c =
     let taken = c.in-Ok.ensures.ok.0 in
     let asked = c.in-Ok.ensures.ok.1 in
     let mode : (asked_for words).mode ≡ Outline = ap (λ (o : Options). o.mode) (sym asked) ∙ c.in-Outline.is in
-    let run = c.serve-in-Outline.ensures words taken asked in
+    let run = c.serve-in-Outline.ensures words taken (c.setup-in-Outline.ensures ∙ setup_asked _ Outline words asked c.in-Outline.is) in
     (run.0, run.1, RunsAsAsked-taken Outline c.serve-in-Outline.result _ taken mode run.2)
 
 pub returns-in-Generate : goal.returns-in-Generate

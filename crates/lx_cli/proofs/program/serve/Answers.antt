@@ -1,5 +1,5 @@
 use Rattle.std.proofs.Common.{[], refl, subst}
-use Rattle.lx_arguments.specs.declared.options.Options.{Options}
+use Rattle.lx_serving.specs.declared.setup.Setup.{Setup}
 use Rattle.lx_serving.specs.Served.{FollowsIn}
 use Rattle.lx_cli.specs.Run.{served_with, source_seen, sink_seen}
 use Rattle.lx_cli.specs.Steps.{IsNew}
@@ -26,4 +26,4 @@ returns-in-Err-new_buffer g c words taken is = (
 
 pub returns : goal.returns
 returns g c words taken is =
-    c.answer_all.ensures words taken (subst (λ (o : Options). IsNew o c.in-Ok.session) is c.in-Ok.ensures)
+    c.answer_all.ensures words taken (subst (λ (s : Setup). IsNew s c.in-Ok.session) is c.in-Ok.ensures)
