@@ -15,11 +15,11 @@ use Rattle.lx_forest.proofs.Edits.{is_some-spot}
 use Rattle.lx_draft.specs.declared.state.State.{State}
 use Rattle.lx_history.specs.declared.kinds.Action.{Action}
 use Rattle.lx_history.specs.declared.kinds.Action.TheVariants.{Push, Merge, Discard}
-use Rattle.lx_history.specs.History.{History, most_entries, with_entry, first, entry_of, action_of, recorded, noted, undone_to, redone_to, undone, redone, turned}
+use Rattle.lx_history.specs.History.{History, most_entries, entry_before, first, next_entry, action_of, history_recorded, noted, undone_to, redone_to, undone, redone, history_turned}
 use Rattle.lx_editor.specs.declared.recording.Recording.{Recording}
 use Rattle.lx_editor.specs.Editor.{Editor}
-use Rattle.lx_editor.specs.Standing.{IsState, HasKinds, IsEntry, EachEntry, IsKept}
-use Rattle.lx_editor.specs.Updated.{Left, state_with, recorded as recorded_after}
+use Rattle.lx_editor.specs.Standing.{IsState, HasKinds, IsEntry, EachEntry, IsReturnable}
+use Rattle.lx_editor.specs.Updated.{Left, state_with, history_recorded as recorded_after}
 use Rattle.lx_editor.specs.Judged.{HasGrown}
 use Rattle.lx_editor.proofs.Limits.{state_rises}
 
@@ -53,13 +53,13 @@ module _ (P : State → Type 0) where
   all_take (suc n) [] h = All-nil P
   all_take (suc n) (x ∷ xs) h = All-cons P x (take n xs) (All-head P x xs h) (all_take n xs (All-tail P x xs h))
 
-  all_with : (o : Option State) (xs : List State) → IfSome o P → All P xs → All P (with_entry o xs)
+  all_with : (o : Option State) (xs : List State) → IfSome o P → All P xs → All P (entry_before o xs)
   all_with None xs h all = all
   all_with (Some s) xs h all = All-cons P s xs h all
 
-  recorded_each : (action : Action) (after : State) (h : History) → P after → EachEntry P h → EachEntry P (recorded action after h)
+  recorded_each : (action : Action) (after : State) (h : History) → P after → EachEntry P h → EachEntry P (history_recorded action after h)
   recorded_each Push after h p e =
-      record { undo = all_take most_entries (with_entry h.current h.undo) (all_with h.current h.undo e.current e.undo); redo = All-nil P; current = p }
+      record { undo = all_take most_entries (entry_before h.current h.undo) (all_with h.current h.undo e.current e.undo); redo = All-nil P; current = p }
   recorded_each Merge after h p e = record { undo = e.undo; redo = e.redo; current = p }
   recorded_each Discard after h p e = e
 
@@ -83,7 +83,7 @@ module _ (P : State → Type 0) where
       (record { undo = all_with h.current h.undo e.current e.undo; redo = All-tail P s xs all; current = All-head P s xs all })
 
   -- so it does where the history turns
-  pub turned_each : (turn : Turn) (moment : ℕ) (h g : History) → EachEntry P h → turned turn moment h ≡ Some g → EachEntry P g
+  pub turned_each : (turn : Turn) (moment : ℕ) (h g : History) → EachEntry P h → history_turned turn moment h ≡ Some g → EachEntry P g
   unfolding undone redone
   turned_each Undo moment h g e is = undone_each moment h.undo h g e.undo e is
   turned_each Redo moment h g e is = redone_each moment h.redo h g e.redo e is
@@ -93,7 +93,7 @@ module _ (P : State → Type 0) where
   first_each (x ∷ xs) s all is = subst P (ap (state_or s) is) (All-head P x xs all)
 
   -- and of the entry to which it turns
-  pub entry_each : (turn : Turn) (h : History) (s : State) → EachEntry P h → entry_of turn h ≡ Some s → P s
+  pub entry_each : (turn : Turn) (h : History) (s : State) → EachEntry P h → next_entry turn h ≡ Some s → P s
   entry_each Undo h s e is = first_each h.undo s e.undo is
   entry_each Redo h s e is = first_each h.redo s e.redo is
 
@@ -131,7 +131,7 @@ key_below f next q free there = elim (cases_Bool (ltb q next)) [
 
 -- ---- a commit
 
-module _ (e : Editor) (left : Left) (stands : IsState e.tree e.selection e.next_key) (kept : IsKept e) (state : IsState left.tree left.selection left.next_key)
+module _ (e : Editor) (left : Left) (stands : IsState e.tree e.selection e.next_key) (kept : IsReturnable e) (state : IsState left.tree left.selection left.next_key)
     (grown : HasGrown e.tree e.next_key left) where
   abbrev pub kinds : ℕ → Kind
   kinds = kinds_with kept.kinds e.next_key left.tree

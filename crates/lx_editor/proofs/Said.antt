@@ -8,7 +8,7 @@ use Rattle.lx_step.specs.declared.built_in.Turn.{Turn}
 use Rattle.lx_draft.specs.declared.state.Frozen.{Frozen}
 use Rattle.lx_draft.specs.declared.state.State.{State}
 use Rattle.lx_forest.specs.Covered.{AreCovered}
-use Rattle.lx_history.specs.History.{entry_of}
+use Rattle.lx_history.specs.History.{next_entry}
 use Rattle.lx_reconcile.specs.Allowing.{marking}
 use Rattle.lx_reconcile.specs.Told.{Told}
 use Rattle.lx_script.specs.Replies.{reply_text}
@@ -22,7 +22,7 @@ use Rattle.lx_editor.specs.Follows.{html_told, reply_of, view_told}
 use Rattle.lx_editor.specs.Judged.{covering, IsCoveredBy}
 use Rattle.lx_editor.specs.Saying.{HasCommitted, IsSaid}
 use Rattle.lx_editor.specs.Turned.{IsTurned}
-use Rattle.lx_editor.specs.Updated.{left_of, IsCommitted}
+use Rattle.lx_editor.specs.Updated.{what_is_left, IsCommitted}
 use Rattle.lx_editor.proofs.Changed.{none_told, noted_told, told_from, uncommitted_cleared, uncommitted_listener, uncommitted_same}
 use Rattle.lx_editor.proofs.Kept.{state_or}
 use Rattle.lx_editor.proofs.Told.{told}
@@ -31,7 +31,7 @@ use Rattle.lx_editor.proofs.Told.{told}
 
 pub committed_has : (old : Editor) (how : Recording) (frozen lent : Frozen) (shown : Option (Box Marked)) (marks : Marked) (ops : List Op) (new : Editor)
     → lent ≡ frozen → marks ≡ covering lent shown → IsCoveredBy old frozen.state.links (covering frozen shown)
-    → IsCommitted old how (left_of old.rules frozen) (old.commits + 1) ops new → HasCommitted old lent.state ops marks new
+    → IsCommitted old how (what_is_left old.rules frozen) (old.commits + 1) ops new → HasCommitted old lent.state ops marks new
 committed_has old how frozen lent shown marks ops new is covers covered done =
     subst (λ m. HasCommitted old lent.state ops m new) (sym covers)
     (subst (λ (f : Frozen). HasCommitted old f.state ops (covering f shown) new) (sym is)
@@ -45,7 +45,7 @@ committed_has old how frozen lent shown marks ops new is covers covered done =
     }))
 
 pub turned_has : (turn : Turn) (moment : ℕ) (old : Editor) (state lent : State) (covers marks : Marked) (ops : List Op) (new : Editor)
-    → lent ≡ state → marks ≡ covers → entry_of turn old.history ≡ Some state → IsCoveredBy old state.links covers
+    → lent ≡ state → marks ≡ covers → next_entry turn old.history ≡ Some state → IsCoveredBy old state.links covers
     → IsTurned turn moment old (old.commits + 1) ops new → HasCommitted old lent ops marks new
 turned_has turn moment old state lent covers marks ops new is same next covered done =
     let tree : new.tree ≡ state.links = ap (λ (e : Editor). e.tree) done.made ∙ ap (λ (s : State). s.links) (ap (state_or state) (sym done.next ∙ next)) in

@@ -14,7 +14,8 @@ use Rattle.lx_reconcile.specs.Allowed.{MayChange, new_host, of_touched, of_child
 use Rattle.lx_reconcile.specs.Allowing.{marking, IsAllowed}
 use Rattle.lx_reconcile.specs.Told.{Told}
 use Rattle.lx_editor.specs.Editor.{Editor}
-use Rattle.lx_editor.specs.Updated.{Left, IsNothingNew, hosts_fault, most_reads}
+use Rattle.lx_editor.specs.Updated.{Left, IsNothingNew, hosts_fault}
+use Rattle.lx_reconcile.specs.Reading.{most_reads}
 use Rattle.lx_editor.specs.Judged.{IsLeft, HasGrown, IsShownBy, MayCommit}
 
 -- ---- children of nodes that two markings mark alike

@@ -17,13 +17,14 @@ use Rattle.lx_forest.specs.Forest.{Forest}
 use Rattle.lx_forest.specs.Lookups.{has, roots}
 use Rattle.lx_reconcile.specs.Allowed.{MayChange, new_host, of_touched, of_child, IsDue, AreAllowed, subject_of, marked_children, staying}
 use Rattle.lx_draft.specs.declared.state.State.{State}
-use Rattle.lx_history.specs.History.{History, first, entry_of, undone_to, redone_to, undone, redone, turned}
+use Rattle.lx_history.specs.History.{History, first, next_entry, undone_to, redone_to, undone, redone, history_turned}
 use Rattle.lx_reconcile.specs.Allowing.{marking, IsAllowed}
 use Rattle.lx_reconcile.specs.Told.{Told}
 use Rattle.lx_editor.specs.Editor.{Editor}
 use Rattle.lx_editor.specs.Standing.{HasKinds, IsEntry, IsValid}
 use Rattle.lx_editor.specs.Turned.{is_in_either, IsTurned}
-use Rattle.lx_editor.specs.Updated.{most_reads, with_commit}
+use Rattle.lx_editor.specs.Updated.{with_commit}
+use Rattle.lx_reconcile.specs.Reading.{most_reads}
 use Rattle.lx_editor.specs.Judged.{all_marked, MayTurn}
 use Rattle.lx_editor.proofs.Changed.{state_is}
 use Rattle.lx_editor.proofs.Kept.{turned_each, entry_each}
@@ -82,7 +83,7 @@ current_in None = None
 current_in (Some h) = h.current
 
 -- the history comes to the entry that is next
-pub comes_to : (turn : Turn) (moment : ℕ) (h g : History) (state : State) → entry_of turn h ≡ Some state → turned turn moment h ≡ Some g
+pub comes_to : (turn : Turn) (moment : ℕ) (h g : History) (state : State) → next_entry turn h ≡ Some state → history_turned turn moment h ≡ Some g
     → g.current ≡ Some state
 unfolding undone redone
 comes_to Undo moment h g state next turns = back h.undo next turns where
@@ -95,18 +96,18 @@ comes_to Redo moment h g state next turns = forth h.redo next turns where
   forth (s ∷ xs) one is = sym (ap (λ o. current_in o) is) ∙ one
 
 -- the entry is one that may be committed, and its nodes have the kinds of their keys
-pub entry_kept : (e : Editor) (valid : IsValid e) (turn : Turn) (state : State) → entry_of turn e.history ≡ Some state
+pub entry_kept : (e : Editor) (valid : IsValid e) (turn : Turn) (state : State) → next_entry turn e.history ≡ Some state
     → IsEntry e.next_key state × HasKinds valid.kept.kinds state.links
 entry_kept e valid turn state next = entry_each (λ s. IsEntry e.next_key s × HasKinds valid.kept.kinds s.links) turn e.history state valid.kept.entries next
 
 -- a copy of the entry that the history gives is its next one
-pub next_copied : (turn : Turn) (h : History) (told : Option State) (entry state : State) → told ≡ entry_of turn h → told ≡ Some entry
+pub next_copied : (turn : Turn) (h : History) (told : Option State) (entry state : State) → told ≡ next_entry turn h → told ≡ Some entry
     → state.links ≡ entry.links → state.selection ≡ entry.selection
-    → entry_of turn h ≡ Some state
+    → next_entry turn h ≡ Some state
 next_copied turn h told entry state tells is links selection = sym tells ∙ is ∙ ap (λ s. Some s) (sym (state_is state entry links selection))
 
 -- where there is an entry the history turns
-never_still : (turn : Turn) (moment : ℕ) (h : History) (state : State) → entry_of turn h ≡ Some state → turned turn moment h ≡ None → ⊥
+never_still : (turn : Turn) (moment : ℕ) (h : History) (state : State) → next_entry turn h ≡ Some state → history_turned turn moment h ≡ None → ⊥
 unfolding undone redone
 never_still Undo moment h state next none = back h.undo next none where
   back : (xs : List State) → first xs ≡ Some state → undone_to moment xs h ≡ None → ⊥
@@ -117,15 +118,15 @@ never_still Redo moment h state next none = forth h.redo next none where
   forth [] one none = cc
   forth (s ∷ xs) one none = cc
 
-pub has_turned : (b : Bool) (turn : Turn) (moment : ℕ) (h mid g : History) (state : State) → entry_of turn h ≡ Some state → mid ≡ h
-    → MatchBool b (turned turn moment mid ≡ Some g) ((turned turn moment mid ≡ None) × (g ≡ mid)) → turned turn moment h ≡ Some g
-has_turned true turn moment h mid g state next same did = subst (λ k. turned turn moment k ≡ Some g) same did
+pub has_turned : (b : Bool) (turn : Turn) (moment : ℕ) (h mid g : History) (state : State) → next_entry turn h ≡ Some state → mid ≡ h
+    → MatchBool b (history_turned turn moment mid ≡ Some g) ((history_turned turn moment mid ≡ None) × (g ≡ mid)) → history_turned turn moment h ≡ Some g
+has_turned true turn moment h mid g state next same did = subst (λ k. history_turned turn moment k ≡ Some g) same did
 has_turned false turn moment h mid g state next same (none, still) =
-    absurd (never_still turn moment h state next (subst (λ k. turned turn moment k ≡ None) same none))
+    absurd (never_still turn moment h state next (subst (λ k. history_turned turn moment k ≡ None) same none))
 
 module _ (e : Editor) (turn : Turn) (moment : ℕ) (state : State) (batch : Told) (may : MayTurn e turn state batch) (valid : IsValid e) (view : HostTree)
     (leads : Leads e.view batch.ops view)
-    (history : History) (turns : turned turn moment e.history ≡ Some history) where
+    (history : History) (turns : history_turned turn moment e.history ≡ Some history) where
   reached : AreAllowed e.tree state.links (is_in_either e.tree state.links) e.view batch.ops view
   reached =
       subst (λ w. AreAllowed e.tree state.links (is_in_either e.tree state.links) e.view batch.ops w)
@@ -190,10 +191,10 @@ as_itself f q = elim (cases_Bool (has q f)) [
 ]
 
 -- where the history has turned, the current state is what is committed
-pub turned_away : (b : Bool) (turn : Turn) (moment : ℕ) (h mid g : History) (state : State) (strays : Option (List ℕ)) → entry_of turn h ≡ Some state → mid ≡ h
-    → MatchBool b (turned turn moment mid ≡ Some g) ((turned turn moment mid ≡ None) × (g ≡ mid)) → (IsTrue b → strays ≡ Some []) → g.current ≡ Some state
+pub turned_away : (b : Bool) (turn : Turn) (moment : ℕ) (h mid g : History) (state : State) (strays : Option (List ℕ)) → next_entry turn h ≡ Some state → mid ≡ h
+    → MatchBool b (history_turned turn moment mid ≡ Some g) ((history_turned turn moment mid ≡ None) × (g ≡ mid)) → (IsTrue b → strays ≡ Some []) → g.current ≡ Some state
     → IsAway g.current strays state.links
 turned_away true turn moment h mid g state strays next same did none is =
     subst (λ o. IsAway o strays state.links) (sym is) (subst (λ p. DifferAt p state.links state.links) (sym (none refl)) (λ q out. as_itself state.links q))
 turned_away false turn moment h mid g state strays next same (none, still) told is =
-    absurd (never_still turn moment h state next (subst (λ k. turned turn moment k ≡ None) same none))
+    absurd (never_still turn moment h state next (subst (λ k. history_turned turn moment k ≡ None) same none))

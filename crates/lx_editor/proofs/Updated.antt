@@ -39,8 +39,8 @@ use Rattle.lx_reconcile.proofs.Covered.{covered}
 use Rattle.lx_edit.specs.Texts.{simple_at}
 use Rattle.lx_reconcile.proofs.StartEnd.{one_tree}
 use Rattle.lx_reconcile.proofs.Frozen.{frozen_parts, one_left, swept_alone, kind_stays}
-use Rattle.lx_update.specs.Lines.{at_first, drafted, script_from, steps_run}
-use Rattle.lx_update.specs.Refusals.{and_then, at_none, TellsRefusal}
+use Rattle.lx_update.specs.Lines.{at_first, left_draft, script_from, steps_run}
+use Rattle.lx_update.specs.Refusals.{refused_or, at_none, TellsRefusal}
 use Rattle.lx_update.proofs.Emptied.{emptied_done}
 use Rattle.lx_update.specs.declared.refusal.Refusal.{Refusal}
 use Rattle.lx_update.specs.declared.refusal.Refusal.TheVariants as refusal
@@ -54,7 +54,7 @@ use Rattle.lx_settle.specs.Settling.{settle_step}
 use Rattle.lx_settle.proofs.Ends.{settling_ends}
 use Rattle.lx_blocks.specs.Blocks.{is_at}
 use Rattle.lx_list.specs.Laws.{IsRenumbered}
-use Rattle.lx_list.specs.Numbered.{IsNumbered}
+use Rattle.lx_list.specs.Numbered.{AreListsNumbered}
 use Rattle.lx_list.specs.Numbering.{number_step}
 use Rattle.lx_list.proofs.Covered.{covered-lists}
 use Rattle.lx_list.proofs.Swept.{numbered_swept}
@@ -62,7 +62,7 @@ use Rattle.lx_settle.proofs.Rest.{there as attached_there}
 use Rattle.lx_editor.specs.Editor.{Editor}
 use Rattle.lx_editor.specs.Gathering.{begun, recording_all, started_of, with_nothing_pending}
 use Rattle.lx_editor.specs.Standing.{IsState, HasKinds, IsEntry, EachEntry, IsValid}
-use Rattle.lx_editor.specs.Updated.{at_commit, answers_of, numbered_by, rested_by, IsAtRest, Settled, left_by, Left, state_with, recorded, with_commit, IsCommitted, IsMadeOf, IsUpdated, IsFlushed}
+use Rattle.lx_editor.specs.Updated.{at_commit, answers_of, numbered_by, rested_by, IsAtRest, Settled, left_by, Left, state_with, recorded, with_commit, IsCommitted, IsMadeOf, IsUpdatedBy, IsFlushed}
 use Rattle.lx_editor.specs.declared.outcome.Outcome.{Outcome}
 use Rattle.lx_editor.specs.declared.recording.Recording.{Recording}
 use Rattle.lx_editor.specs.Registered.{marked_for, left_with, left_for}
@@ -79,19 +79,19 @@ use Rattle.lx_editor.proofs.Loaded.{all_touched, only_root, new_or_root, shown_b
 -- ---- what the steps left
 
 -- steps that ran leave what the draft does that they left
-pub are_left : (rules : List AnyRule) (listeners : List Listener) (steps : List Step) (w draft : Working) → drafted (steps_run listeners steps w) ≡ Ok draft
+pub are_left : (rules : List AnyRule) (listeners : List Listener) (steps : List Step) (w draft : Working) → left_draft (steps_run listeners steps w) ≡ Ok draft
     → left_by rules listeners steps w ≡ rested_by rules draft
 unfolding left_by
-are_left rules listeners steps w draft ran = ap (λ r. and_then r (rested_by rules)) ran
+are_left rules listeners steps w draft ran = ap (λ r. refused_or r (rested_by rules)) ran
 
 -- no steps leave what the draft does
 no_steps : (rules : List AnyRule) (listeners : List Listener) (w : Working) → left_by rules listeners [] w ≡ rested_by rules w
 unfolding left_by steps_run script_from
-no_steps rules listeners w = ap (λ r. and_then (drafted (at_none r)) (rested_by rules)) (emptied_done most_counts listeners (at_first w) refl)
+no_steps rules listeners w = ap (λ r. refused_or (left_draft (at_none r)) (rested_by rules)) (emptied_done most_counts listeners (at_first w) refl)
 
 -- so an update without steps is a flush
-pub is_flushed : (old : Editor) (how : Recording) (outcome : Outcome) (new : Editor) → IsUpdated old [] how outcome new → IsFlushed old how outcome new
-unfolding IsUpdated IsFlushed
+pub is_flushed : (old : Editor) (how : Recording) (outcome : Outcome) (new : Editor) → IsUpdatedBy old [] how outcome new → IsFlushed old how outcome new
+unfolding IsUpdatedBy IsFlushed
 is_flushed old how outcome new updated =
     subst (λ r. IsMadeOf r (with_nothing_pending old) (recording_all old how) outcome new) (no_steps old.rules old.listeners (begun old)) updated
 
@@ -99,7 +99,7 @@ is_flushed old how outcome new updated =
 pub steps_refused : (rules : List AnyRule) (listeners : List Listener) (steps : List Step) (w : Working) (e : Refusal)
     → TellsRefusal e (steps_run listeners steps w) → TellsRefusal e (left_by rules listeners steps w)
 unfolding left_by
-steps_refused rules listeners steps w (refusal.Cause cause step) told = ap (λ r. and_then (drafted r) (rested_by rules)) told
+steps_refused rules listeners steps w (refusal.Cause cause step) told = ap (λ r. refused_or (left_draft r) (rested_by rules)) told
 steps_refused rules listeners steps w refusal.Memory told = tt
 
 -- so do the marks for a rule
@@ -202,7 +202,7 @@ has-swept f q there = attached_there f q there
 
 -- What is joined and numbered, and is frozen, may be left.
 left_frozen : (rules : List AnyRule) (v : Working) (f : Forest) (selection : Selection) (marks : Marked) (next_key : ℕ) → IsForest v.forest → IsJoined v.forest
-    → IsNumbered v.forest
+    → AreListsNumbered v.forest
     → Freezes v f selection marks next_key → MayStart f next_key
     → IsLeft (record { tree = f; selection = selection; marks = marks; next_key = next_key; rules = rules })
 left_frozen rules v f selection marks next_key order joined numbered frozen start =
@@ -217,7 +217,7 @@ left_frozen rules v f selection marks next_key order joined numbered frozen star
         selected = against.0;
         kept = kept_frozen v f selection marks next_key frozen;
         joined = subst IsJoined parts.0 (settling_ends.joined_swept v.forest order joined);
-        numbered = subst IsNumbered parts.0 (numbered_swept v.forest order numbered);
+        numbered = subst AreListsNumbered parts.0 (numbered_swept v.forest order numbered);
       };
     }
 
@@ -415,7 +415,7 @@ no_list : (q : ℕ) → is_at is_list root_alone q ≡ false
 unfolding is_list
 no_list q = grind (arith, eqb_tells 0 q, eqb_tells q 0)
 
-pub root_numbered : IsNumbered root_alone
+pub root_numbered : AreListsNumbered root_alone
 root_numbered = record { each = λ list there is i item at. absurd (let other : is_at is_list root_alone list ≡ false = no_list list in cc) }
 
 pub root_in_order : IsForest root_alone
@@ -438,7 +438,7 @@ new_valid f selection view history delay rules listeners tells_view alone none s
     selected = subst (λ s. selection_lost s f ≡ None) (sym none) refl;
     kept = subst (λ s. kept_selection f s ≡ s) (sym none) refl;
     joined = subst IsJoined (sym alone) root_joined;
-    numbered = subst IsNumbered (sym alone) root_numbered;
+    numbered = subst AreListsNumbered (sym alone) root_numbered;
   };
   shown = subst (Shows view) (sym alone) (subst (λ v. Shows v root_alone) (sym shown) refl);
   none = λ zero. refl;

@@ -10,7 +10,7 @@ use Rattle.lx_step.specs.declared.rule.Rule.{Rule}
 use Rattle.lx_step.specs.declared.step.Step.{Step}
 use Rattle.lx_draft.specs.Working.{Working}
 use Rattle.lx_script.specs.Grammar.{Reads}
-use Rattle.lx_update.specs.Lines.{deferred_run, drafted}
+use Rattle.lx_update.specs.Lines.{deferred_run, left_draft}
 use Rattle.lx_update.specs.Refusals.{TellsRefusal}
 use Rattle.lx_update.specs.declared.refusal.Refusal.{Refusal}
 use Rattle.lx_update.specs.declared.refusal.Refusal.TheVariants as refusal
@@ -92,7 +92,7 @@ pub gathered_refused : (old mid : Editor) (steps : List Step) (draft : Working) 
     → TellsRefusal e (deferred_run mid.listeners steps draft)
     → TellsRefusal e (gathered_by old steps)
 gathered_refused old mid steps draft (refusal.Cause cause step) taken is told =
-    ap drafted
+    ap left_draft
     (subst (λ w. deferred_run old.listeners steps w ≡ Err (cause, step)) is
     (subst (λ (e : Editor). deferred_run e.listeners steps draft ≡ Err (cause, step)) taken told))
 gathered_refused old mid steps draft refusal.Memory taken is told = tt

@@ -30,8 +30,8 @@ pub record Editor : Type 0 where
   pub tells_view : Bool
 
 -- the rules that every editor has before any is registered
-abbrev pub built_in : List AnyRule
-built_in = merge_rule ∷ cell_rule ∷ []
+abbrev pub standing_rules : List AnyRule
+standing_rules = merge_rule ∷ cell_rule ∷ []
 
 -- a new editor, whose replies to commits include the view or not, and whose history has this delay, in milliseconds
 abbrev pub new_editor : Bool → ℕ → Editor
@@ -45,7 +45,7 @@ new_editor tells_view delay = record {
   last = None;
   history = new_history delay;
   moment = 0;
-  rules = built_in;
+  rules = standing_rules;
   listeners = [];
   tells_view = tells_view;
 }

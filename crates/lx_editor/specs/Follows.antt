@@ -30,7 +30,7 @@ use Rattle.lx_editor.specs.Gathering.{recording, IsDeferred}
 use Rattle.lx_editor.specs.Loaded.{IsLoaded}
 use Rattle.lx_editor.specs.Registered.{most_rules, IsRegistered}
 use Rattle.lx_editor.specs.Turned.{with_nothing_recorded}
-use Rattle.lx_editor.specs.Updated.{IsUpdated, IsFlushed}
+use Rattle.lx_editor.specs.Updated.{IsUpdatedBy, IsFlushed}
 
 -- the HTML of a tree's rendering, where it is asked for
 abbrev pub html_told : Bool → Forest → Option (List ℕ)
@@ -80,7 +80,7 @@ IsReplyOfListener old listener bytes new =
 -- The editor may answer a line of this form and with these tags, at its time, with these bytes, and be the new one
 -- after. A question changes nothing.
 unfoldable pub RepliesTo : Editor → Tags → Form → List ℕ → Editor → Type 0
-RepliesTo old tags (Update script) bytes new = IsReplyOf (IsUpdated old (steps_of script) (recording tags old.moment)) bytes new
+RepliesTo old tags (Update script) bytes new = IsReplyOf (IsUpdatedBy old (steps_of script) (recording tags old.moment)) bytes new
 RepliesTo old tags (Defer script) bytes new = IsReplyOf (IsDeferred old (steps_of script) tags) bytes new
 RepliesTo old tags Flush bytes new = IsReplyOf (IsFlushed old (recording tags old.moment)) bytes new
 RepliesTo old tags (Dispatch command) bytes new = IsReplyOfDispatch old command (recording tags old.moment) bytes new
@@ -106,14 +106,14 @@ Replies old (Ok line) bytes new = RepliesToLine old line bytes new
 Replies old (Err cause) bytes new = (bytes ≡ reply_text (reply.Refused cause None)) × (new ≡ old)
 
 -- The editor may answer the line with these bytes, and be the new one after.
-unfoldable pub Answers : Editor → List ℕ → List ℕ → Editor → Type 0
-Answers old line bytes new = (read : Result Line Cause) × Reads line read × Replies old read bytes new
+unfoldable pub AnswersLine : Editor → List ℕ → List ℕ → Editor → Type 0
+AnswersLine old line bytes new = (read : Result Line Cause) × Reads line read × Replies old read bytes new
 
 -- These bytes are answers to the lines, each with a line end, one after another.
 abbrev pub FollowsTo : Editor → List (List ℕ) → List ℕ → Editor → Type 0
 FollowsTo old [] bytes new = (bytes ≡ []) × (new ≡ old)
 FollowsTo old (line ∷ lines) bytes new =
-    (answer rest : List ℕ) × (mid : Editor) × Answers old line answer mid
+    (answer rest : List ℕ) × (mid : Editor) × AnswersLine old line answer mid
     × (bytes ≡ answer ++ 10 ∷ rest) × FollowsTo mid lines rest new
 
 -- the bytes answer the lines, whatever editor is left

@@ -6,7 +6,7 @@ use Rattle.lx_step.specs.declared.step.Step.{Step}
 use Rattle.lx_step.specs.Lines.{untagged, both_tags}
 use Rattle.lx_draft.specs.Covering as drafts
 use Rattle.lx_draft.specs.Working.{Working, started}
-use Rattle.lx_update.specs.Lines.{deferred_run, drafted}
+use Rattle.lx_update.specs.Lines.{deferred_run, left_draft}
 use Rattle.lx_update.specs.Refusals.{Refused as RefusedAt}
 use Rattle.lx_editor.specs.declared.outcome.Outcome.{Outcome}
 use Rattle.lx_editor.specs.declared.outcome.Outcome.TheVariants.{Gathered, Refused}
@@ -75,7 +75,7 @@ IsGatheredOf (Ok w) old tags outcome new = (outcome ≡ Gathered ((pending_of ol
 
 -- what steps that wait leave of what a line begins with
 abbrev pub gathered_by : Editor → List Step → Result Working RefusedAt
-gathered_by old steps = drafted (deferred_run old.listeners steps (begun old))
+gathered_by old steps = left_draft (deferred_run old.listeners steps (begun old))
 
 -- the outcome that an update has which waits, and the editor that it leaves
 unfoldable pub IsDeferred : Editor → List Step → Tags → Outcome → Editor → Type 0

@@ -12,7 +12,7 @@ use Rattle.lx_draft.specs.declared.state.Frozen.{Frozen}
 use Rattle.lx_draft.specs.declared.state.State.{State}
 use Rattle.lx_draft.specs.Working.{Working}
 use Rattle.lx_draft.specs.Covering as drafts
-use Rattle.lx_history.specs.History.{entry_of}
+use Rattle.lx_history.specs.History.{next_entry}
 use Rattle.lx_forest.specs.Covered.{Marking, AreCovered}
 use Rattle.lx_reconcile.specs.Told.{Told}
 use Rattle.lx_reconcile.specs.Allowing.{marking, IsAllowed}
@@ -28,7 +28,8 @@ use Rattle.lx_editor.specs.declared.recording.Recording.{Recording}
 use Rattle.lx_editor.specs.Editor.{Editor}
 use Rattle.lx_editor.specs.Standing.{IsState}
 use Rattle.lx_editor.specs.Turned.{is_in_either, IsTurned, IsUnshowableEntry}
-use Rattle.lx_editor.specs.Updated.{Left, Settled, left_of, rested_by, IsAtRest, IsNothingNew, IsUnshowable, hosts_fault, most_reads, IsCommitted}
+use Rattle.lx_editor.specs.Updated.{Left, Settled, what_is_left, rested_by, IsAtRest, IsNothingNew, IsUnshowable, hosts_fault, IsCommitted}
+use Rattle.lx_reconcile.specs.Reading.{most_reads}
 
 -- ---- what is left
 
@@ -126,7 +127,7 @@ IsCoveredBy old after marks = AreCovered old.tree after (marking marks)
 -- What is left under the editor's rules is to be committed, or can't be shown, or is nothing new.
 abbrev pub IsWeighed : Editor → Left → Verdict → Type 0
 IsWeighed old left (Commit frozen batch shown) =
-    (left_of old.rules frozen.value ≡ left) × MayCommit old left batch × IsCoveredBy old frozen.value.state.links (covering frozen.value shown)
+    (what_is_left old.rules frozen.value ≡ left) × MayCommit old left batch × IsCoveredBy old frozen.value.state.links (covering frozen.value shown)
 IsWeighed old left (Turned turn state batch marks) = ⊥
 IsWeighed old left (Refused cause step) = IsUnshowable old left cause step old
 IsWeighed old left Idle = (left.rules ≡ old.rules) × IsNothingNew old left
@@ -145,7 +146,7 @@ all_marked old new = record { touched = is_in_either old new; noted = is_in_eith
 -- The history may go to this state, which is its next entry, with these operations: the view has ids for it, and they are
 -- allowed and were found by few reads.
 pub record MayTurn (old : Editor) (turn : Turn) (state : State) (batch : Told) : Type 0 where
-  pub next : entry_of turn old.history ≡ Some state
+  pub next : next_entry turn old.history ≡ Some state
   pub stands : IsState state.links state.selection old.next_key
   pub ids : hosts_fault old.tree state.links old.view ≡ None
   pub allowed : IsAllowed old.tree state.links (all_marked old.tree state.links) old.view batch.ops
@@ -155,7 +156,7 @@ pub record MayTurn (old : Editor) (turn : Turn) (state : State) (batch : Told) :
 abbrev pub IsTurnJudged : Turn → Editor → Verdict → Type 0
 IsTurnJudged turn old (Turned way state batch marks) = (way ≡ turn) × MayTurn old turn state.value batch × IsCoveredBy old state.value.links marks.value
 IsTurnJudged turn old (Refused cause step) = IsUnshowableEntry turn old cause step old
-IsTurnJudged turn old Idle = entry_of turn old.history ≡ None
+IsTurnJudged turn old Idle = next_entry turn old.history ≡ None
 IsTurnJudged turn old (Commit frozen batch shown) = ⊥
 
 -- what a dispatch comes to, and whether it was handled
@@ -173,13 +174,13 @@ IsForCause refusal.Memory = ⊥
 
 -- what has to hold for a verdict to be carried out: where there is a commit, it may be made, and its marks cover the two trees
 abbrev pub MayConclude : Editor → Verdict → Type 0
-MayConclude old (Commit frozen batch shown) = MayCommit old (left_of old.rules frozen.value) batch × IsCoveredBy old frozen.value.state.links (covering frozen.value shown)
+MayConclude old (Commit frozen batch shown) = MayCommit old (what_is_left old.rules frozen.value) batch × IsCoveredBy old frozen.value.state.links (covering frozen.value shown)
 MayConclude old (Turned turn state batch marks) = MayTurn old turn state.value batch × IsCoveredBy old state.value.links marks.value
 MayConclude old verdict = Unit {0}
 
 -- the outcome that a verdict has, and the editor that it leaves
 abbrev pub IsConcluded : Editor → Recording → Verdict → Outcome → Editor → Type 0
-IsConcluded old how (Commit frozen batch shown) (made.Committed number ops) new = IsCommitted old how (left_of old.rules frozen.value) number ops new
+IsConcluded old how (Commit frozen batch shown) (made.Committed number ops) new = IsCommitted old how (what_is_left old.rules frozen.value) number ops new
 IsConcluded old how (Commit frozen batch shown) other new = ⊥
 IsConcluded old how (Turned turn state batch marks) (made.Committed number ops) new = IsTurned turn how.moment old number ops new
 IsConcluded old how (Turned turn state batch marks) other new = ⊥

@@ -14,13 +14,13 @@ use Rattle.lx_rules.specs.Types.{is_of_row}
 use Rattle.lx_rules.specs.declared.any_rule.AnyRule.{AnyRule}
 use Rattle.lx_rules.specs.declared.any_rule.AnyRule.TheVariants.{Script}
 use Rattle.lx_editor.specs.declared.outcome.Outcome.{Outcome}
-use Rattle.lx_editor.specs.Editor.{built_in, Editor}
+use Rattle.lx_editor.specs.Editor.{standing_rules, Editor}
 use Rattle.lx_editor.specs.Gathering.{begun, recording, recording_all}
 use Rattle.lx_editor.specs.Updated.{Settled, rested_by, IsMadeOf}
 
 -- the most rules that an editor has: 256 that were registered, and those that are built in
 abbrev pub most_rules : ℕ
-most_rules = 256 + length built_in
+most_rules = 256 + length standing_rules
 
 -- the keys of the nodes of a type in the root's tree, in preorder
 abbrev pub of_type : TypeRow → Forest → List ℕ

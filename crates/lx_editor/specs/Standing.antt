@@ -12,7 +12,7 @@ use Rattle.lx_draft.specs.Selecting.{selection_lost}
 use Rattle.lx_history.specs.History.{History}
 use Rattle.lx_history.specs.Told.{IsAway}
 use Rattle.lx_settle.specs.Joined.{IsJoined}
-use Rattle.lx_list.specs.Numbered.{IsNumbered}
+use Rattle.lx_list.specs.Numbered.{AreListsNumbered}
 use Rattle.lx_editor.specs.declared.editor.Editor.TheInside.{Inside}
 use Rattle.lx_editor.specs.Editor.{Editor}
 use Rattle.lx_editor.specs.Gathering.{IsPending, started_of, unboxed}
@@ -45,7 +45,7 @@ pub record IsState (f : Forest) (selection : Selection) (next_key : ℕ) : Type 
   pub selected : selection_lost selection f ≡ None
   pub kept : kept_selection f selection ≡ selection
   pub joined : IsJoined f
-  pub numbered : IsNumbered f
+  pub numbered : AreListsNumbered f
 
 -- ---- what the history keeps
 
@@ -65,7 +65,7 @@ pub record EachEntry (P : State → Type 0) (h : History) : Type 0 where
 
 -- Each state of the history may be committed again as it is. A key is given to one node alone, so there is one kind for each
 -- key, which its node has in the committed tree and in every state of the history.
-pub record IsKept (e : Editor) : Type 0 where
+pub record IsReturnable (e : Editor) : Type 0 where
   pub kinds : ℕ → Kind
   pub now : HasKinds kinds e.tree
   pub entries : EachEntry (λ s. IsEntry e.next_key s × HasKinds kinds s.links) e.history
@@ -77,7 +77,7 @@ pub record IsValid (e : Editor) : Type 0 where
   pub shown : Shows e.view e.tree
   pub none : e.commits ≡ 0 → e.last ≡ None
   pub some : e.last ≡ None → e.commits ≡ 0
-  pub kept : IsKept e
+  pub kept : IsReturnable e
   pub pending : IfSome e.pending (IsPending (started_of e))
 
 -- What holds of the fields of an editor: it is valid, and its tree differs from the history's current one only where the history

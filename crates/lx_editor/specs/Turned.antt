@@ -8,14 +8,15 @@ use Rattle.lx_forest.specs.Forest.{Forest}
 use Rattle.lx_forest.specs.Lookups.{has}
 use Rattle.lx_reconcile.specs.Allowed.{AreAllowed}
 use Rattle.lx_draft.specs.declared.state.State.{State}
-use Rattle.lx_history.specs.History.{entry_of, turned, cleared}
+use Rattle.lx_history.specs.History.{next_entry, history_turned, cleared}
 use Rattle.lx_settle.specs.Joined.{IsJoined}
-use Rattle.lx_list.specs.Numbered.{IsNumbered}
+use Rattle.lx_list.specs.Numbered.{AreListsNumbered}
 use Rattle.lx_editor.specs.declared.outcome.Outcome.{Outcome}
 use Rattle.lx_editor.specs.declared.outcome.Outcome.TheVariants.{Committed, Gathered, Refused, Idle}
 use Rattle.lx_editor.specs.Editor.{Editor}
 use Rattle.lx_editor.specs.Gathering.{is_gathering, with_nothing_pending}
-use Rattle.lx_editor.specs.Updated.{hosts_fault, most_reads, with_commit}
+use Rattle.lx_editor.specs.Updated.{hosts_fault, with_commit}
+use Rattle.lx_reconcile.specs.Reading.{most_reads}
 
 -- whether a node is in either tree, each of which counts as marked
 abbrev pub is_in_either : Forest → Forest → ℕ → Bool
@@ -26,22 +27,22 @@ is_in_either old new q = has q old || has q new
 -- joined and whose items are numbered. Of the new editor only the view's ids and the number of reads are left open.
 pub record IsTurned (turn : Turn) (moment : ℕ) (old : Editor) (commit : ℕ) (ops : List Op) (new : Editor) : Type 0 where
   pub entry : State
-  pub next : entry_of turn old.history ≡ Some entry
-  pub turns : turned turn moment old.history ≡ Some new.history
+  pub next : next_entry turn old.history ≡ Some entry
+  pub turns : history_turned turn moment old.history ≡ Some new.history
   pub current : new.history.current ≡ Some entry
   pub ids : hosts_fault old.tree entry.links old.view ≡ None
   pub allowed : AreAllowed old.tree entry.links (is_in_either old.tree entry.links) old.view ops new.view
   pub reads : ℕ
   pub few : reads ≤ most_reads old.tree entry.links (is_in_either old.tree entry.links)
   pub joined : IsJoined entry.links
-  pub numbered : IsNumbered entry.links
+  pub numbered : AreListsNumbered entry.links
   pub number : commit ≡ old.commits + 1
   pub made : new ≡ with_commit entry new.view (record { ops = ops; reads = reads }) new.history old
 
 -- There is an entry, but the view has no ids for it, and nothing changes.
 pub record IsUnshowableEntry (turn : Turn) (old : Editor) (cause : Cause) (step : Option ℕ) (new : Editor) : Type 0 where
   pub entry : State
-  pub next : entry_of turn old.history ≡ Some entry
+  pub next : next_entry turn old.history ≡ Some entry
   pub fault : hosts_fault old.tree entry.links old.view ≡ Some cause
   pub no_step : step ≡ None
   pub same : new ≡ old
@@ -51,7 +52,7 @@ pub record IsUnshowableEntry (turn : Turn) (old : Editor) (cause : Cause) (step 
 abbrev pub IsTurnedBy : Turn → ℕ → Editor → Outcome → Editor → Type 0
 IsTurnedBy turn moment old (Committed commit ops) new = IsTurned turn moment old commit ops new
 IsTurnedBy turn moment old (Refused cause step) new = IsUnshowableEntry turn old cause step new
-IsTurnedBy turn moment old Idle new = (entry_of turn old.history ≡ None) × (new ≡ old)
+IsTurnedBy turn moment old Idle new = (next_entry turn old.history ≡ None) × (new ≡ old)
 IsTurnedBy turn moment old (Gathered count) new = ⊥
 
 -- the outcome of an undo or a redo where lines may be gathered: then it is refused, and they are dropped

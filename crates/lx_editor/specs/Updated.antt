@@ -12,6 +12,7 @@ use Rattle.lx_select.specs.declared.selection.Selection.{Selection}
 use Rattle.lx_step.specs.declared.step.Step.{Step}
 use Rattle.lx_step.specs.declared.listener.Listener.{Listener}
 use Rattle.lx_forest.specs.Forest.{Forest}
+use Rattle.lx_reconcile.specs.Reading.{most_reads}
 use Rattle.lx_reconcile.specs.Allowed.{AreAllowed, marked_children, staying, unkept}
 use Rattle.lx_reconcile.specs.Told.{Told}
 use Rattle.lx_draft.specs.Working.{Working}
@@ -20,8 +21,8 @@ use Rattle.lx_draft.specs.Faults.{over, after}
 use Rattle.lx_draft.specs.declared.state.Frozen.{Frozen}
 use Rattle.lx_draft.specs.declared.state.State.{State}
 use Rattle.lx_history.specs.History.{History, noted}
-use Rattle.lx_update.specs.Lines.{steps_run, drafted}
-use Rattle.lx_update.specs.Refusals.{and_then}
+use Rattle.lx_update.specs.Lines.{steps_run, left_draft}
+use Rattle.lx_update.specs.Refusals.{refused_or}
 use Rattle.lx_rules.specs.Answers.{Answers}
 use Rattle.lx_rules.specs.AnyRules.{any_rows, any_acts}
 use Rattle.lx_rules.specs.declared.any_rule.AnyRule.{AnyRule}
@@ -29,7 +30,7 @@ use Rattle.lx_settle.specs.Acting.{all_asked}
 use Rattle.lx_settle.specs.Joined.{IsJoined}
 use Rattle.lx_settle.specs.Rested.{IsRested}
 use Rattle.lx_settle.specs.Settling.{settle_step}
-use Rattle.lx_list.specs.Numbered.{IsNumbered}
+use Rattle.lx_list.specs.Numbered.{AreListsNumbered}
 use Rattle.lx_list.specs.Numbering.{number_step}
 use Rattle.lx_editor.specs.declared.recording.Recording.{Recording}
 use Rattle.lx_editor.specs.declared.outcome.Outcome.{Outcome}
@@ -53,8 +54,8 @@ abbrev pub left_in : List AnyRule → Working → Left
 left_in rules w = record { tree = w.forest; selection = w.selection; marks = w.marks; next_key = w.next_key; rules = rules }
 
 -- what is left for a commit in what was frozen
-abbrev pub left_of : List AnyRule → Frozen → Left
-left_of rules frozen =
+abbrev pub what_is_left : List AnyRule → Frozen → Left
+what_is_left rules frozen =
     record { tree = frozen.state.links; selection = frozen.state.selection; marks = frozen.marks; next_key = frozen.next_key; rules = rules }
 
 -- what is left, with what was marked when it had come to rest, before items got other numbers
@@ -87,7 +88,7 @@ IsAtRest settled = IsRested (answers_of settled.left.rules) settled.left.tree se
 -- What steps leave of a draft for a commit, where these listeners are offered what they dispatch; or why they are refused, and
 -- at which step.
 unfoldable pub left_by : List AnyRule → List Listener → List Step → Working → Result Settled (Cause × Option ℕ)
-left_by rules listeners steps w = and_then (drafted (steps_run listeners steps w)) (rested_by rules)
+left_by rules listeners steps w = refused_or (left_draft (steps_run listeners steps w)) (rested_by rules)
 
 -- ---- how a commit is recorded
 
@@ -129,11 +130,6 @@ abbrev pub TellsHosts : Fault → Option Cause → Type 0
 TellsHosts (fault.Cause cause) found = found ≡ Some cause
 TellsHosts fault.Memory found = Unit {0}
 
--- The most reads of nodes by which the operations between two trees are found, where these nodes are marked. Of the old
--- tree only those of them count that stay.
-abbrev pub most_reads : Forest → Forest → (ℕ → Bool) → ℕ
-most_reads old new noted = 8 * (marked_children (staying noted new) old + marked_children noted new + unkept old None new + 1)
-
 -- It is something new, the view has ids for it, and it is committed: its texts are joined, its items are numbered, the
 -- operations are allowed between the two trees, and they were found by no more reads than that. The history has it as these
 -- tags and this time say, and nothing is pending any more. Of the new editor only the view's ids and the number of
@@ -142,7 +138,7 @@ pub record IsCommitted (old : Editor) (how : Recording) (left : Left) (commit : 
   pub anew : IsNothingNew old left → ⊥
   pub ids : hosts_fault old.tree left.tree old.view ≡ None
   pub joined : IsJoined left.tree
-  pub numbered : IsNumbered left.tree
+  pub numbered : AreListsNumbered left.tree
   pub allowed : AreAllowed old.tree left.tree (is_touched left.marks) old.view ops new.view
   pub reads : ℕ
   pub few : reads ≤ most_reads old.tree left.tree (is_noted left.marks)
@@ -170,8 +166,8 @@ IsMadeOf (Err refused) old how outcome new = (outcome ≡ Refused refused.0 refu
 IsMadeOf (Ok settled) old how outcome new = IsAtRest settled × IsTaken old how settled.left outcome new
 
 -- An update takes in what is pending, which is committed with what its steps leave, or dropped with it.
-unfoldable pub IsUpdated : Editor → List Step → Recording → Outcome → Editor → Type 0
-IsUpdated old steps how outcome new =
+unfoldable pub IsUpdatedBy : Editor → List Step → Recording → Outcome → Editor → Type 0
+IsUpdatedBy old steps how outcome new =
     IsMadeOf (left_by old.rules old.listeners steps (begun old)) (with_nothing_pending old) (recording_all old how) outcome new
 
 -- A flush is an update that has no steps.

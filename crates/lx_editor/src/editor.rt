@@ -95,7 +95,7 @@ impl Editor {
     ghost use Rattle.lx_editor.specs.Editor.{new_editor, Editor as EditorOf};
     ghost use Rattle.lx_editor.specs.Standing.{IsState};
     ghost use Rattle.lx_editor.specs.Gathering.{recording, with_nothing_pending};
-    ghost use Rattle.lx_editor.specs.Updated.{IsUpdated, IsCommitted, left_of};
+    ghost use Rattle.lx_editor.specs.Updated.{IsUpdatedBy, IsCommitted, what_is_left};
     ghost use Rattle.lx_editor.specs.Judged.{MayCommit, MayConclude, IsConcluded, IsCoveredBy, covering};
 
     /// A new editor: the root alone, nothing selected, no commit, no rule but the two that are built in, no listener,
@@ -180,7 +180,7 @@ impl Editor {
     ) -> Result<Outcome, NoMemory>
         requires sound { All IsSound steps.now }
         requires room { self.old.commits < last_u32 }
-        ensures updated { IfOk result (λ outcome. IsUpdated self.old steps.now (recording tags moment) outcome self.new) }
+        ensures updated { IfOk result (λ outcome. IsUpdatedBy self.old steps.now (recording tags moment) outcome self.new) }
         ensures commits { self.new.commits ≤ self.old.commits + 1 }
         ensures unchanged { OnErr result (self.new ≡ with_nothing_pending self.old) }
     {
@@ -198,7 +198,7 @@ impl Editor {
     ) -> Result<S::Said, NoMemory>
         requires sound { All IsSound steps.now }
         requires room { self.old.commits < last_u32 }
-        ensures updated { IfOk result (λ said. (outcome : OutcomeOf) × IsUpdated self.old steps.now how outcome self.new × S.tells sayer.old None self.old outcome self.new said sayer.new) }
+        ensures updated { IfOk result (λ said. (outcome : OutcomeOf) × IsUpdatedBy self.old steps.now how outcome self.new × S.tells sayer.old None self.old outcome self.new said sayer.new) }
         ensures commits { self.new.commits ≤ self.old.commits + 1 }
         ensures unchanged { OnErr result (self.new ≡ with_nothing_pending self.old) }
     {
@@ -271,9 +271,9 @@ impl Editor {
         how: Recording,
     ) -> Result<(), NoMemory>
         requires room { self.old.commits < last_u32 }
-        requires may { MayCommit self.old (left_of self.old.rules frozen.value) batch }
+        requires may { MayCommit self.old (what_is_left self.old.rules frozen.value) batch }
         requires covered { IsCoveredBy self.old frozen.value.state.links (covering frozen.value shown) }
-        ensures committed { OnOk result (IsCommitted self.old how (left_of self.old.rules frozen.value) (self.old.commits + 1) batch.ops self.new) }
+        ensures committed { OnOk result (IsCommitted self.old how (what_is_left self.old.rules frozen.value) (self.old.commits + 1) batch.ops self.new) }
         ensures commits { OnOk result (self.new.commits ≡ self.old.commits + 1) }
         ensures unchanged { OnErr result (self.new ≡ self.old) }
     {

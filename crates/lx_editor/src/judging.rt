@@ -15,7 +15,7 @@ ghost use Rattle.lx_editor.specs.Judged.{IsLeft, HasGrown, IsJudged, IsAnswerJud
 ghost use Rattle.lx_forest.specs.Covered.{AreCovered};
 ghost use Rattle.lx_reconcile.specs.Allowing.{marking};
 ghost use Rattle.lx_editor.specs.Registered.{left_for, left_with};
-ghost use Rattle.lx_editor.specs.Updated.{Settled, left_of, left_by, rested_by};
+ghost use Rattle.lx_editor.specs.Updated.{Settled, what_is_left, left_by, rested_by};
 
 use crate::editor::Editor;
 use crate::leaving::rest;
@@ -134,10 +134,10 @@ impl Editor {
     /// What is to be done with what is left: it is committed, unless it is nothing new, or the view has no ids to
     /// show it.
     fn weigh(&self, alloc: Global, frozen: Box<Frozen>) -> Result<Verdict, NoMemory>
-        requires left { IsLeft (left_of self.now.rules frozen.value) }
+        requires left { IsLeft (what_is_left self.now.rules frozen.value) }
         requires covered { AreCovered self.now.tree frozen.value.state.links (marking frozen.value.marks) }
-        requires grown { HasGrown self.now.tree self.now.next_key (left_of self.now.rules frozen.value) }
-        ensures weighed { IfOk result (IsWeighed self.now (left_of self.now.rules frozen.value)) }
+        requires grown { HasGrown self.now.tree self.now.next_key (what_is_left self.now.rules frozen.value) }
+        ensures weighed { IfOk result (IsWeighed self.now (what_is_left self.now.rules frozen.value)) }
     {
         if frozen.marks.is_empty() && frozen.state.selection.is_equal(&self.state.selection) {
             return Ok(Verdict::Idle);

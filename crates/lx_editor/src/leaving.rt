@@ -2,7 +2,7 @@
 
 ghost use Rattle.std.specs.Prelude.{IfOk, IfErr};
 ghost use Rattle.lx_update.specs.Refusals.{TellsRefusal};
-ghost use Rattle.lx_editor.specs.Updated.{left_of, rested_by};
+ghost use Rattle.lx_editor.specs.Updated.{what_is_left, rested_by};
 ghost use Rattle.lx_editor.specs.Judged.{IsLeftOf, IsLeftOfImport, LeavesAtRest, MayRest};
 
 use lx_draft::{Draft, Frozen};
@@ -21,9 +21,9 @@ pub(crate) fn rest(
     rules: &[AnyRule],
 ) -> Result<Box<Frozen>, Refusal>
     requires may { MayRest draft }
-    ensures left { IfOk result (λ frozen. LeavesAtRest draft (left_of rules.now frozen.value)) }
-    ensures stands { IfOk result (λ frozen. IsLeftOf draft (left_of rules.now frozen.value)) }
-    ensures imported { IfOk result (λ frozen. IsLeftOfImport draft (left_of rules.now frozen.value)) }
+    ensures left { IfOk result (λ frozen. LeavesAtRest draft (what_is_left rules.now frozen.value)) }
+    ensures stands { IfOk result (λ frozen. IsLeftOf draft (what_is_left rules.now frozen.value)) }
+    ensures imported { IfOk result (λ frozen. IsLeftOfImport draft (what_is_left rules.now frozen.value)) }
     ensures refused { IfErr result (λ e. TellsRefusal e (rested_by rules.now draft)) }
 {
     match settle(alloc, &mut draft, rules) {

@@ -44,7 +44,7 @@ impl Editor {
     ghost use Rattle.lx_editor.specs.Judged.{IsLeft, IsShownBy, HasGrown, IsJudged, IsWeighed, is_idle};
     ghost use Rattle.lx_editor.specs.Loaded.{IsLoaded, left_by_load};
     ghost use Rattle.lx_editor.specs.Gathering.{recording};
-    ghost use Rattle.lx_editor.specs.Updated.{left_of};
+    ghost use Rattle.lx_editor.specs.Updated.{what_is_left};
 
     /// Loads a document, which takes the place of what is committed: its nodes get new keys, nothing is selected, and all
     /// of it comes to rest under the rules and is committed, and recorded in the history as the tags and the time say,
@@ -103,11 +103,11 @@ impl Editor {
     /// What is to be done with what is left of a document: it is committed, unless the view has no ids to show it. The
     /// children of the old root are all gone, so their hosts are.
     fn weigh_load(&self, alloc: Global, frozen: Box<Frozen>) -> Result<Verdict, NoMemory>
-        requires left { IsLeft (left_of self.now.rules frozen.value) }
-        requires shown { IsShownBy self.now.tree (left_of self.now.rules frozen.value) (with_leaves (children_of self.now.tree 0) frozen.value.marks) }
-        requires grown { HasGrown self.now.tree self.now.next_key (left_of self.now.rules frozen.value) }
+        requires left { IsLeft (what_is_left self.now.rules frozen.value) }
+        requires shown { IsShownBy self.now.tree (what_is_left self.now.rules frozen.value) (with_leaves (children_of self.now.tree 0) frozen.value.marks) }
+        requires grown { HasGrown self.now.tree self.now.next_key (what_is_left self.now.rules frozen.value) }
         requires anew { is_touched frozen.value.marks 0 ≡ true }
-        ensures weighed { IfOk result (IsWeighed self.now (left_of self.now.rules frozen.value)) }
+        ensures weighed { IfOk result (IsWeighed self.now (what_is_left self.now.rules frozen.value)) }
         ensures anew { IfOk result (λ verdict. is_idle verdict ≡ false) }
     {
         let left = frozen.as_ref();

@@ -8,7 +8,8 @@ ghost use Rattle.lx_forest.specs.Lookups.{roots, IsForest};
 ghost use Rattle.lx_forest.specs.Covered.{AreCovered};
 ghost use Rattle.lx_reconcile.specs.Allowed.{Shows, unkept as unkept_of};
 ghost use Rattle.lx_reconcile.specs.Allowing.{marking, IsAllowed};
-ghost use Rattle.lx_editor.specs.Updated.{hosts_fault, most_reads, TellsHosts};
+ghost use Rattle.lx_editor.specs.Updated.{hosts_fault, TellsHosts};
+ghost use Rattle.lx_reconcile.specs.Reading.{most_reads};
 
 use lx_draft::over;
 use lx_host::{HostTree, Ops};

@@ -2,7 +2,7 @@
 
 ghost use Rattle.lx_node.specs.Limits.{last_u32};
 ghost use Rattle.std.specs.Prelude.{◌≡◌, IfOk};
-ghost use Rattle.lx_editor.specs.Editor.{built_in};
+ghost use Rattle.lx_editor.specs.Editor.{standing_rules};
 ghost use Rattle.lx_editor.specs.Registered.{merging};
 ghost use Rattle.lx_editor.specs.Gathering.{recording};
 
@@ -22,7 +22,7 @@ const MOST_RULES: usize = 258;
 
 /// The rules that an editor has from the beginning.
 pub(crate) fn built_in_rules(alloc: Global) -> Result<Vec<AnyRule>, NoMemory>
-    ensures { IfOk result (λ rules. rules.items ≡ built_in) }
+    ensures { IfOk result (λ rules. rules.items ≡ standing_rules) }
 {
     let mut rules = Vec::new(alloc);
     rules.push(AnyRule::Merge(ListMerge))?;

@@ -19,7 +19,7 @@ use Rattle.lx_editor.specs.declared.outcome.Outcome.TheVariants.{Committed, Gath
 use Rattle.lx_editor.specs.Dispatched.{IsDispatched}
 use Rattle.lx_editor.specs.Editor.{Editor, new_editor}
 use Rattle.lx_editor.specs.Gathering.{recording}
-use Rattle.lx_editor.specs.Updated.{IsUpdated}
+use Rattle.lx_editor.specs.Updated.{IsUpdatedBy}
 use Rattle.lx_arguments.specs.declared.options.Generated.{Generated}
 use Rattle.lx_generator.specs.declared.summary.Summary.{Summary}
 use Rattle.lx_generator.specs.declared.tally.Tally.{Tally}
@@ -91,7 +91,7 @@ LeadTo (command ∷ commands) old t new u =
 pub record IsSession (session : Generated) (old last : Editor) (tally : Tally) : Type 0 where
   pub outcome : Outcome
   pub first : Editor
-  pub begins : IsUpdated old first_steps (recording untagged 0) outcome first
+  pub begins : IsUpdatedBy old first_steps (recording untagged 0) outcome first
   pub goes_on : LeadTo (commands_behind (session.lines - 1) (next_number session.seed)) first (counted outcome no_tally) last tally
 
 -- ---- its summary

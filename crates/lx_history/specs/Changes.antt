@@ -35,18 +35,18 @@ is_in_text p = is_text p.kind
     is_text point.Element = false
 
 -- the text in fields, if they have one
-abbrev pub text_in : Option Fields → Option TextFields
-text_in (Some (fields.Text text)) = Some text
-text_in other = None
+abbrev pub fields_of_text : Option Fields → Option TextFields
+fields_of_text (Some (fields.Text text)) = Some text
+fields_of_text other = None
 
 -- what a text or tab has, in a tree
-abbrev pub text_at : Forest → ℕ → Option TextFields
-text_at f k = text_in (fields_of f k)
+abbrev pub text_fields_at : Forest → ℕ → Option TextFields
+text_fields_at f k = fields_of_text (fields_of f k)
 
 -- how many characters a text has, and 0 where there is none
-abbrev pub length_of : Option TextFields → ℕ
-length_of None = 0
-length_of (Some text) = length_told text.text
+abbrev pub characters_in_text : Option TextFields → ℕ
+characters_in_text None = 0
+characters_in_text (Some text) = length_told text.text
 
 -- ---- what changed: the marked texts and tabs, and the elements that were marked themselves, other than the root
 
@@ -56,41 +56,41 @@ marked_elements [] = []
 marked_elements (e ∷ es) = if e.1 && not (e.0 == 0) then e.0 ∷ marked_elements es else marked_elements es
 
 -- what changed: the marked texts and tabs of a tree, and its elements that were marked themselves
-abbrev pub changed : Forest → Marked → List ℕ
-changed f m = filter (λ k. is_some (text_at f k)) m.leaves ++ filter (λ k. has k f) (marked_elements m.elements)
+abbrev pub changed_keys : Forest → Marked → List ℕ
+changed_keys f m = filter (λ k. is_some (text_fields_at f k)) m.leaves ++ filter (λ k. has k f) (marked_elements m.elements)
 
 -- ---- the kind of typing
 
 -- the typing of a first letter: the text of the caret is new, and the caret is after its one character
 abbrev pub starts : Forest → Forest → Point → Change
-starts old new b = if not (has b.key old) && (length_of (text_at new b.key) == 1) && (b.offset == 1) then Insert else Other
+starts old new b = if not (has b.key old) && (characters_in_text (text_fields_at new b.key) == 1) && (b.offset == 1) then Insert else Other
 
 -- the kind of typing from a text's length m and the caret's place a to the length n and the place b
-abbrev pub grown : ℕ → ℕ → ℕ → ℕ → Change
-grown m n a b =
+abbrev pub length_typing : ℕ → ℕ → ℕ → ℕ → Change
+length_typing m n a b =
     if (n == m + 1) && (b == a + 1) then Insert else
     (if (n + 1 == m) && (a == b + 1) then DeleteBefore else (if (n + 1 == m) && (a == b) then DeleteAfter else Other))
 
 -- the kind of typing in a text that is in both states with equal mode
-abbrev pub edited : Option TextFields → Option TextFields → Point → Point → Change
-edited (Some old) (Some new) a b =
-    if same_mode old.mode new.mode && is_in_text a && (a.key == b.key) then grown (length_told old.text) (length_told new.text) a.offset b.offset else Other
-edited _ _ a b = Other
+abbrev pub text_typing : Option TextFields → Option TextFields → Point → Point → Change
+text_typing (Some old) (Some new) a b =
+    if same_mode old.mode new.mode && is_in_text a && (a.key == b.key) then length_typing (length_told old.text) (length_told new.text) a.offset b.offset else Other
+text_typing _ _ a b = Other
 
 -- the kind of typing by what changed: nothing, one node, or more
-abbrev pub typed : List ℕ → Forest → Forest → Point → Point → Change
-typed [] old new a b = Other
-typed (k ∷ []) old new a b = edited (text_at old k) (text_at new k) a b
-typed (k ∷ l ∷ others) old new a b = starts old new b
+abbrev pub keys_typing : List ℕ → Forest → Forest → Point → Point → Change
+keys_typing [] old new a b = Other
+keys_typing (k ∷ []) old new a b = text_typing (text_fields_at old k) (text_fields_at new k) a b
+keys_typing (k ∷ l ∷ others) old new a b = starts old new b
 
 -- the kind of typing between two carets, the second of which is in a text
 abbrev pub typed_between : Option Point → Option Point → State → State → Marked → Change
-typed_between (Some a) (Some b) before after marks = if is_in_text b then typed (changed after.links marks) before.links after.links a b else Other
+typed_between (Some a) (Some b) before after marks = if is_in_text b then keys_typing (changed_keys after.links marks) before.links after.links a b else Other
 typed_between _ _ before after marks = Other
 
 -- what kind of typing a commit was
-unfoldable pub change_of : State → State → Marked → Change
-change_of before after marks = typed_between (caret_of before.selection) (caret_of after.selection) before after marks
+unfoldable pub typing_of : State → State → Marked → Change
+typing_of before after marks = typed_between (caret_of before.selection) (caret_of after.selection) before after marks
 
 -- ---- what it does to the history
 
@@ -109,13 +109,13 @@ is_same_text _ _ = false
 -- whether exactly one leaf is marked, a text or tab of both states, with equal fields and in the same place of the tree
 abbrev pub is_touched_alone : List ℕ → Forest → Forest → Bool
 is_touched_alone (k ∷ []) old new =
-    is_same_text (text_at old k) (text_at new k) && option_eq (λ p q. p == q) (parent_of old k) (parent_of new k)
+    is_same_text (text_fields_at old k) (text_fields_at new k) && option_eq (λ p q. p == q) (parent_of old k) (parent_of new k)
 is_touched_alone _ old new = false
 
 -- whether nothing is selected
-abbrev pub is_nothing : Selection → Bool
-is_nothing selection.Nothing = true
-is_nothing other = false
+abbrev pub selects_nothing : Selection → Bool
+selects_nothing selection.Nothing = true
+selects_nothing other = false
 
 -- whether nothing is marked
 abbrev pub is_unmarked : Marked → Bool

@@ -9,7 +9,7 @@ use Rattle.lx_history.specs.declared.kinds.Action.{Action}
 use Rattle.lx_history.specs.declared.kinds.Action.TheVariants.{Push, Merge, Discard}
 use Rattle.lx_history.specs.declared.kinds.Change.{Change}
 use Rattle.lx_history.specs.declared.kinds.Change.TheVariants.{Other}
-use Rattle.lx_history.specs.Changes.{change_of, is_typing, is_touched_alone, is_nothing, is_unmarked}
+use Rattle.lx_history.specs.Changes.{typing_of, is_typing, is_touched_alone, selects_nothing, is_unmarked}
 
 -- Entries to go back to and to go forth to, which are states, the newest first; the current state, if there is one; the
 -- last kind of typing and its time; and the delay, within which typing goes on.
@@ -45,26 +45,26 @@ chosen tags has_current unmarked nothing goes_on touched =
 -- what a commit of this kind of typing does to the history, by the states, the marks, the tags and the time
 abbrev pub action_by : History → State → State → Marked → Tags → ℕ → Change → Action
 action_by h before after marks tags moment change =
-    chosen tags (is_some h.current) (is_unmarked marks) (is_nothing after.selection) (is_typing change h.last && nat_lt moment (h.moment + h.delay))
+    chosen tags (is_some h.current) (is_unmarked marks) (selects_nothing after.selection) (is_typing change h.last && nat_lt moment (h.moment + h.delay))
     (is_touched_alone marks.leaves before.links after.links)
 
 -- what a commit does to the history
 unfoldable pub action_of : History → State → State → Marked → Tags → ℕ → Action
-action_of h before after marks tags moment = action_by h before after marks tags moment (change_of before after marks)
+action_of h before after marks tags moment = action_by h before after marks tags moment (typing_of before after marks)
 
 -- ---- recording
 
 -- entries with one more in front, if there is one
-abbrev pub with_entry : Option State → List State → List State
-with_entry None entries = entries
-with_entry (Some state) entries = state ∷ entries
+abbrev pub entry_before : Option State → List State → List State
+entry_before None entries = entries
+entry_before (Some state) entries = state ∷ entries
 
 -- The history with the new state after the current one, which is then the newest entry, and the oldest goes if there
 -- are too many; with it in its place; or as before.
-abbrev pub recorded : Action → State → History → History
-recorded Push after h = record h { undo = take most_entries (with_entry h.current h.undo); redo = []; current = Some after }
-recorded Merge after h = record h { current = Some after }
-recorded Discard after h = h
+abbrev pub history_recorded : Action → State → History → History
+history_recorded Push after h = record h { undo = take most_entries (entry_before h.current h.undo); redo = []; current = Some after }
+history_recorded Merge after h = record h { current = Some after }
+history_recorded Discard after h = h
 
 -- the kind of typing that is kept: none of a historic commit
 abbrev pub change_told : Tags → Change → Change
@@ -73,7 +73,7 @@ change_told tags change = if tags.historic then Other else change
 -- the history after a commit
 unfoldable pub noted : State → State → Marked → Tags → ℕ → History → History
 noted before after marks tags moment h =
-    record (recorded (action_of h before after marks tags moment) after h) { last = change_told tags (change_of before after marks); moment = moment }
+    record (history_recorded (action_of h before after marks tags moment) after h) { last = change_told tags (typing_of before after marks); moment = moment }
 
 -- ---- going back and forth
 
@@ -81,7 +81,7 @@ noted before after marks tags moment h =
 abbrev pub undone_to : ℕ → List State → History → Option History
 undone_to moment [] h = None
 undone_to moment (state ∷ entries) h =
-    Some (record h { undo = entries; redo = with_entry h.current h.redo; current = Some state; last = Other; moment = moment })
+    Some (record h { undo = entries; redo = entry_before h.current h.redo; current = Some state; last = Other; moment = moment })
 
 -- the history after an undo
 unfoldable pub undone : ℕ → History → Option History
@@ -91,7 +91,7 @@ undone moment h = undone_to moment h.undo h
 abbrev pub redone_to : ℕ → List State → History → Option History
 redone_to moment [] h = None
 redone_to moment (state ∷ entries) h =
-    Some (record h { undo = with_entry h.current h.undo; redo = entries; current = Some state; last = Other; moment = moment })
+    Some (record h { undo = entry_before h.current h.undo; redo = entries; current = Some state; last = Other; moment = moment })
 
 -- the history after a redo
 unfoldable pub redone : ℕ → History → Option History
@@ -103,14 +103,14 @@ first [] = None
 first (state ∷ entries) = Some state
 
 -- the entry to which the history goes next, if there is one
-abbrev pub entry_of : Turn → History → Option State
-entry_of Undo h = first h.undo
-entry_of Redo h = first h.redo
+abbrev pub next_entry : Turn → History → Option State
+next_entry Undo h = first h.undo
+next_entry Redo h = first h.redo
 
 -- the history after an undo or a redo
-abbrev pub turned : Turn → ℕ → History → Option History
-turned Undo moment h = undone moment h
-turned Redo moment h = redone moment h
+abbrev pub history_turned : Turn → ℕ → History → Option History
+history_turned Undo moment h = undone moment h
+history_turned Redo moment h = redone moment h
 
 -- ---- forgetting
 

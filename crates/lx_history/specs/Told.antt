@@ -16,8 +16,8 @@ AreTold beside [] = Unit {0}
 AreTold beside (e ∷ es) = DifferAt e.places e.state.links beside × AreTold e.state.links es
 
 -- all entries tell where their trees differ, those to go back to and those to go forth to, from the current state on
-abbrev pub IsTold : Inside → Type 0
-IsTold h = IfSome h.current (λ c. AreTold c.links h.undo.items × AreTold c.links h.redo.items)
+abbrev pub AreEntriesTold : Inside → Type 0
+AreEntriesTold h = IfSome h.current (λ c. AreTold c.links h.undo.items × AreTold c.links h.redo.items)
 
 -- entries with one more in front, if there is a state
 abbrev pub with_told : Option State → Option (List ℕ) → List Entry → List Entry

@@ -60,7 +60,7 @@ fn is_in_text(point: &Point) -> bool
 /// The typing from a text's length and the caret's place in it to others.
 fn grown(m: u64, n: u64, a: u64, b: u64) -> Change
     requires { (m < 2 ^ 63) × (n < 2 ^ 63) × (a < 2 ^ 63) × (b < 2 ^ 63) }
-    ensures { result ≡ changes.grown m n a b }
+    ensures { result ≡ changes.length_typing m n a b }
 {
     if n == m + 1 && b == a + 1 {
         Change::Insert
@@ -109,7 +109,7 @@ fn is_same_mode(a: Mode, b: Mode) -> bool
 
 /// The typing in a text that is in both states.
 fn edited(old: &TextFields, new: &TextFields, a: Point, b: Point) -> Change
-    ensures { result ≡ changes.edited (Some old.now) (Some new.now) a b }
+    ensures { result ≡ changes.text_typing (Some old.now) (Some new.now) a b }
 {
     if is_same_mode(old.mode, new.mode) && is_in_text(&a) && a.key == b.key {
         grown(
@@ -125,7 +125,7 @@ fn edited(old: &TextFields, new: &TextFields, a: Point, b: Point) -> Change
 
 /// The typing in a text, where it is in both states.
 fn edited_at(old: &Links, new: &Links, key: Key, a: Point, b: Point) -> Change
-    ensures { result ≡ changes.edited (changes.text_at old.now key) (changes.text_at new.now key) a b }
+    ensures { result ≡ changes.text_typing (changes.text_fields_at old.now key) (changes.text_fields_at new.now key) a b }
 {
     match (text_at(old, key), text_at(new, key)) {
         (Some(old), Some(new)) => edited(old, new, a, b),
@@ -157,9 +157,9 @@ fn typed_between(a: Point, b: Point, before: &State, after: &State, marks: &Mark
 }
 
 /// What kind of typing led from one state to the other, of which the marks say what changed.
-#[tactic(auto, unfolding(crate::specs::Changes::change_of))]
+#[tactic(auto, unfolding(crate::specs::Changes::typing_of))]
 pub(crate) fn change_of(before: &State, after: &State, marks: &Marks) -> Change
-    ensures { result ≡ changes.change_of before.now after.now marks.now }
+    ensures { result ≡ changes.typing_of before.now after.now marks.now }
 {
     match (caret(&before.selection), caret(&after.selection)) {
         (Some(a), Some(b)) => typed_between(a, b, before, after, marks),

@@ -1,7 +1,7 @@
 ghost use Rattle.std.specs.Prelude.{◌≡◌, ◌<◌, ◌≤◌, length, take};
 ghost use Rattle.std.specs.VecDeque.{deque_len, deque_capacity};
 ghost use Rattle.lx_forest.specs.Forest.{Forest};
-ghost use Rattle.lx_history.specs.History.{with_entry, most_entries};
+ghost use Rattle.lx_history.specs.History.{entry_before, most_entries};
 ghost use Rattle.lx_history.specs.Told.{states, with_told, AreTold, IsFirstJoined};
 
 use lx_compare::Places;
@@ -20,7 +20,7 @@ pub struct Entry {
 pub(crate) fn put_first(entries: &mut VecDeque<Entry>, state: Option<State>, places: Places)
     requires { deque_len entries.old < deque_capacity entries.old }
     ensures told { entries.new.items ≡ with_told state places entries.old.items }
-    ensures states { states entries.new.items ≡ with_entry state (states entries.old.items) }
+    ensures states { states entries.new.items ≡ entry_before state (states entries.old.items) }
 {
     if let Some(state) = state {
         entries.push_front_reserved(Entry { state, places });

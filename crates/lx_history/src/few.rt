@@ -2,8 +2,8 @@
 
 ghost use Rattle.std.specs.Prelude.{◌≡◌, ◌==◌, ◌&&◌, not, is_some, filter, IsTrue, if◌then◌else◌};
 ghost use Rattle.lx_forest.specs.Lookups.{has};
-ghost use Rattle.lx_history.specs.Changes.{text_at, marked_elements, changed};
-ghost use Rattle.lx_history.specs.Few.{few_of, with_key, with_keys};
+ghost use Rattle.lx_history.specs.Changes.{text_fields_at, marked_elements, changed_keys};
+ghost use Rattle.lx_history.specs.Few.{few_of, few_with, with_keys};
 ghost use Rattle.lx_history.specs.declared.few.Few.TheVariants.{Several};
 
 use crate::texts::text_at;
@@ -21,7 +21,7 @@ pub(crate) enum Few {
 
 impl Few {
     fn with(self, key: Key) -> Few
-        ensures { result ≡ with_key key self }
+        ensures { result ≡ few_with key self }
     {
         match self {
             Few::Empty => Few::One(key),
@@ -42,7 +42,7 @@ impl Few {
 
 /// With the leaf, where it is a text or tab of the tree.
 fn with_leaf(few: Few, links: &Links, key: Key) -> Few
-    ensures { result ≡ (if is_some (text_at links.now key) then with_key key few else few) }
+    ensures { result ≡ (if is_some (text_fields_at links.now key) then few_with key few else few) }
 {
     if text_at(links, key).is_some() {
         few.with(key)
@@ -53,7 +53,7 @@ fn with_leaf(few: Few, links: &Links, key: Key) -> Few
 
 /// With the texts and tabs of the tree among these leaves. It goes no further than to the second one.
 fn with_leaves(mut few: Few, links: &Links, leaves: &[Key]) -> Few
-    ensures { result ≡ with_keys (filter (λ k. is_some (text_at links.now k)) leaves.now) few }
+    ensures { result ≡ with_keys (filter (λ k. is_some (text_fields_at links.now k)) leaves.now) few }
 {
     for key in leaves {
         few = with_leaf(few, links, *key);
@@ -67,7 +67,7 @@ fn with_leaves(mut few: Few, links: &Links, leaves: &[Key]) -> Few
 /// With the element, where it was marked itself and is in the tree. The root isn't counted: it is marked whenever the
 /// blocks below it are.
 fn with_element(few: Few, links: &Links, key: Key, flag: bool) -> Few
-    ensures { result ≡ (if flag && not (key == 0) && has key links.now then with_key key few else few) }
+    ensures { result ≡ (if flag && not (key == 0) && has key links.now then few_with key few else few) }
 {
     if flag && key != Key::root() && links.has(key) {
         few.with(key)
@@ -92,7 +92,7 @@ fn with_elements(mut few: Few, links: &Links, elements: &[(Key, bool)]) -> Few
 
 /// What changed in the tree, the new one.
 pub(crate) fn few_changed(links: &Links, marks: &Marks) -> Few
-    ensures { result ≡ few_of (changed links.now marks.now) }
+    ensures { result ≡ few_of (changed_keys links.now marks.now) }
 {
     let few = with_leaves(Few::Empty, links, marks.leaves());
     with_elements(few, links, marks.elements())

@@ -59,7 +59,7 @@ impl Model for History {
     ghost use Rattle.lx_history.specs.Kept.{Kept};
     ghost use Rattle.lx_history.specs.History.{IsHistory};
     ghost use Rattle.lx_history.specs.Inside.{history_in, kept_of};
-    ghost use Rattle.lx_history.specs.Told.{IsTold};
+    ghost use Rattle.lx_history.specs.Told.{AreEntriesTold};
 
     ghost Value = { Kept };
 
@@ -67,12 +67,12 @@ impl Model for History {
 
     ghost view = { kept_of };
 
-    ghost invariant = { λ h. IsHistory (history_in h) × IsTold h };
+    ghost invariant = { λ h. IsHistory (history_in h) × AreEntriesTold h };
 }
 
 impl History {
     ghost use Rattle.lx_history.specs.Kept.{IsPrepared};
-    ghost use Rattle.lx_history.specs.History.{new_history, undone, redone, turned, entry_of, first, cleared};
+    ghost use Rattle.lx_history.specs.History.{new_history, undone, redone, history_turned, next_entry, first, cleared};
 
     /// A history without entries, in which typing goes on for so many milliseconds after a commit. Entries take memory from
     /// the allocator later.
@@ -152,7 +152,7 @@ impl History {
 
     /// The state to which `turn` goes, where there is one.
     pub fn state_at(&self, turn: Turn) -> Option<&State>
-        ensures { option_copied result ≡ entry_of turn self.now.history }
+        ensures { option_copied result ≡ next_entry turn self.now.history }
     {
         match turn {
             Turn::Undo => self.undo_state(),
@@ -162,7 +162,7 @@ impl History {
 
     /// The entry to which `turn` goes, where there is one: its state, and where that differs from the current one.
     pub fn entry_at(&self, turn: Turn) -> Option<&Entry>
-        ensures state { option_map (λ entry. entry.now.state) result ≡ entry_of turn self.now.history }
+        ensures state { option_map (λ entry. entry.now.state) result ≡ next_entry turn self.now.history }
         ensures told { IfSome result (λ entry. IsSomeAnd self.now.history.current (λ c. DifferAt entry.now.places c.links entry.now.state.links)) }
     {
         match turn {
@@ -221,7 +221,7 @@ impl History {
     /// memory.
     pub fn turn(&mut self, turn: Turn, moment: u64) -> bool
         requires { IsPrepared self.old }
-        ensures turned { MatchBool result (turned turn moment self.old.history ≡ Some self.new.history) ((turned turn moment self.old.history ≡ None) × (self.new.history ≡ self.old.history)) }
+        ensures turned { MatchBool result (history_turned turn moment self.old.history ≡ Some self.new.history) ((history_turned turn moment self.old.history ≡ None) × (self.new.history ≡ self.old.history)) }
         ensures strays { IsTrue result → self.new.strays ≡ Some [] }
     {
         match turn {

@@ -5,7 +5,7 @@ ghost use Rattle.lx_history.specs.Changes as changes;
 ghost use Rattle.lx_history.specs.Kept.{IsPrepared};
 ghost use Rattle.lx_history.specs.Told.{IsAway};
 ghost use Rattle.lx_history.specs.declared.kinds.Action.TheVariants.{Push, Merge, Discard};
-ghost use Rattle.lx_history.specs.History.{action_by, action_of, change_told, noted, recorded};
+ghost use Rattle.lx_history.specs.History.{action_by, action_of, change_told, noted, history_recorded};
 
 use crate::change::{change_of, is_typing};
 use crate::entry::{join_first, keep_newest, put_first};
@@ -89,7 +89,7 @@ impl History {
     fn push(&mut self, after: State)
         requires prepared { IsPrepared self.old }
         requires strays { IsAway self.old.history.current self.old.strays after.links }
-        ensures recorded { self.new.history ≡ recorded Push after self.old.history }
+        ensures recorded { self.new.history ≡ history_recorded Push after self.old.history }
         ensures strays { IsAway self.new.history.current self.new.strays after.links }
     {
         self.redo.clear();
@@ -102,7 +102,7 @@ impl History {
     /// Makes the new state current in place of the one that was. The entries on either side tell where it strayed.
     fn merge(&mut self, after: State)
         requires strays { IsAway self.old.history.current self.old.strays after.links }
-        ensures recorded { self.new.history ≡ recorded Merge after self.old.history }
+        ensures recorded { self.new.history ≡ history_recorded Merge after self.old.history }
         ensures strays { IsAway self.new.history.current self.new.strays after.links }
     {
         join_first(&mut self.undo, &self.strays);
@@ -115,7 +115,7 @@ impl History {
     fn record(&mut self, action: Action, after: State)
         requires prepared { IsPrepared self.old }
         requires strays { IsAway self.old.history.current self.old.strays after.links }
-        ensures recorded { self.new.history ≡ recorded action after self.old.history }
+        ensures recorded { self.new.history ≡ history_recorded action after self.old.history }
         ensures strays { IsAway self.new.history.current self.new.strays after.links }
     {
         match action {
@@ -163,7 +163,7 @@ impl History {
 
 /// What a commit does that changed the selection alone.
 fn unmarked_action(selection: &Selection) -> Action
-    ensures { result ≡ (if changes.is_nothing selection.now then Discard else Merge) }
+    ensures { result ≡ (if changes.selects_nothing selection.now then Discard else Merge) }
 {
     match selection {
         Selection::Nothing => Action::Discard,

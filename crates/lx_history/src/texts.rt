@@ -21,7 +21,7 @@ fn fields_at(links: &Links, key: Key) -> Option<&Fields>
 
 /// What a text or tab has.
 pub(crate) fn text_at(links: &Links, key: Key) -> Option<&TextFields>
-    ensures { option_copied result ≡ changes.text_at links.now key }
+    ensures { option_copied result ≡ changes.text_fields_at links.now key }
 {
     match fields_at(links, key) {
         Some(Fields::Text(text)) => Some(text),
@@ -31,7 +31,7 @@ pub(crate) fn text_at(links: &Links, key: Key) -> Option<&TextFields>
 
 /// The length of a text or tab, or 0.
 pub(crate) fn length_at(links: &Links, key: Key) -> u64
-    ensures { result ≡ changes.length_of (changes.text_at links.now key) }
+    ensures { result ≡ changes.characters_in_text (changes.text_fields_at links.now key) }
 {
     match text_at(links, key) {
         Some(text) => length_of(&text.text) as u64,
@@ -42,7 +42,7 @@ pub(crate) fn length_at(links: &Links, key: Key) -> u64
 /// Whether both are those of a text or tab, and equal.
 #[tactic(auto, unfolding(lx_node::specs::Same::same_fields))]
 fn is_same_text(old: &Fields, new: &Fields) -> bool
-    ensures { result ≡ changes.is_same_text (changes.text_in (Some old.now)) (changes.text_in (Some new.now)) }
+    ensures { result ≡ changes.is_same_text (changes.fields_of_text (Some old.now)) (changes.fields_of_text (Some new.now)) }
 {
     match (old, new) {
         (Fields::Text(_), Fields::Text(_)) => old.is_equal(new),
@@ -52,7 +52,7 @@ fn is_same_text(old: &Fields, new: &Fields) -> bool
 
 /// Whether the key is that of a text or tab in both trees, with equal fields.
 fn has_same_text(old: &Links, new: &Links, key: Key) -> bool
-    ensures { result ≡ changes.is_same_text (changes.text_at old.now key) (changes.text_at new.now key) }
+    ensures { result ≡ changes.is_same_text (changes.text_fields_at old.now key) (changes.text_fields_at new.now key) }
 {
     match (fields_at(old, key), fields_at(new, key)) {
         (Some(old), Some(new)) => is_same_text(old, new),

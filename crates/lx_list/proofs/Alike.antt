@@ -19,7 +19,7 @@ use Rattle.lx_forest.proofs.Within.{is_within-with_fields}
 use Rattle.lx_forest.proofs.Preorder.{preorder-with_fields}
 use Rattle.lx_draft.specs.Faults.{text_in, text_fields}
 use Rattle.lx_edit.specs.Texts.{if_simple, simple_at}
-use Rattle.lx_list.specs.Making.{changed, numbered, with_extra}
+use Rattle.lx_list.specs.Making.{element_fields_changed, with_number, with_extra_changed}
 
 -- where a node is, with an item's number put as 1
 abbrev pub seen_label : Label → Label
@@ -161,11 +161,11 @@ simple-alike f g a q =
 
 -- ---- a set of an item's number
 
-numbered-seen : (n : ℕ) (e : Extra) → unnumbered (numbered n e) ≡ unnumbered e
+numbered-seen : (n : ℕ) (e : Extra) → unnumbered (with_number n e) ≡ unnumbered e
 numbered-seen n extra.Plain = refl
 numbered-seen n other = refl
 
-pub changed-seen : (n : ℕ) (o : Fields) → seen_fields (changed (with_extra (numbered n)) o) ≡ seen_fields o
+pub changed-seen : (n : ℕ) (o : Fields) → seen_fields (element_fields_changed (with_extra_changed (with_number n)) o) ≡ seen_fields o
 changed-seen n (fields.Element element) = ap (λ e. fields.Element (record element { extra = e })) (numbered-seen n element.extra)
 changed-seen n other = refl
 

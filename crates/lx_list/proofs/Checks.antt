@@ -6,21 +6,21 @@ use Rattle.lx_blocks.specs.Ranges.{range_of}
 use Rattle.lx_caret.specs.Lying.{LeavesLying}
 use Rattle.lx_caret.proofs.Fit.{after_tells, Fit, Staying, stays_allowed}
 use Rattle.lx_caret.proofs.Cleared.{range_lies, fit_of}
-use Rattle.lx_list.specs.Making.{with_extra, checked_as, check_item}
+use Rattle.lx_list.specs.Making.{with_extra_changed, checked_as, check_item}
 use Rattle.lx_list.specs.Checking.{item_fault, set_checked_step, toggled, is_checked, toggle_checked_step}
-use Rattle.lx_list.specs.Laws.{KeepsLying}
+use Rattle.lx_list.specs.Laws.{KeepsLyingInTree}
 use Rattle.lx_list.proofs.Written.{stays_change}
 
 pub stays_check : (check : Option Bool) (item : ℕ) → Staying (check_item check item)
 unfolding check_item
-stays_check check item w v fit e = stays_change (with_extra (checked_as check)) item w v fit e
+stays_check check item w v fit e = stays_change (with_extra_changed (checked_as check)) item w v fit e
 
 stays_set_checked : (item : ℕ) (checked : Bool) → Staying (set_checked_step item checked)
 unfolding set_checked_step
 stays_set_checked item checked w v fit e =
     stays_allowed w v (item_fault w.forest item) (check_item (Some checked) item) (λ f. stays_check (Some checked) item w v fit f) e
 
-pub lies-set_checked : (item : ℕ) (checked : Bool) → KeepsLying (set_checked_step item checked)
+pub lies-set_checked : (item : ℕ) (checked : Bool) → KeepsLyingInTree (set_checked_step item checked)
 lies-set_checked item checked w v ready held short lying e =
     (stays_set_checked item checked w v (record { ready = ready; held = held; short = short; lying = lying }) e).fit.lying
 

@@ -26,18 +26,18 @@ use Rattle.lx_draft.specs.Steps.{rewritten, set_step}
 use Rattle.lx_draft.proofs.Again.{set_again-element}
 use Rattle.lx_draft.proofs.Rewritten.{rewritten-none, rewritten-more}
 use Rattle.lx_blocks.specs.Blocks.{passes, is_at}
-use Rattle.lx_list.specs.Making.{changed, numbered, with_extra, set_changed, change_step, number_item}
+use Rattle.lx_list.specs.Making.{element_fields_changed, with_number, with_extra_changed, set_changed, change_step, number_item}
 use Rattle.lx_list.specs.Nesting.{is_nesting}
-use Rattle.lx_list.specs.Numbering.{start_at, numbered_from, list_numbered}
-use Rattle.lx_list.specs.Numbered.{number_in, number_at, IsNumberedList}
+use Rattle.lx_list.specs.Numbering.{list_start, numbered_from, list_numbered}
+use Rattle.lx_list.specs.Numbered.{number_in, item_number, IsNumberedList}
 use Rattle.lx_list.proofs.Numbered.{parent_there}
 use Rattle.lx_list.proofs.Itemless.{spot_known, there_at, item_below}
 
 -- ---- one item
 
-same_number : (n : ℕ) (o : Fields) → number_at (Some o) ≡ Some n → changed (with_extra (numbered n)) o ≡ o
+same_number : (n : ℕ) (o : Fields) → item_number (Some o) ≡ Some n → element_fields_changed (with_extra_changed (with_number n)) o ≡ o
 same_number n (fields.Element element) is = ap (λ e. fields.Element (record element { extra = e })) (by_extra element.extra is) where
-  by_extra : (e : Extra) → number_in e ≡ Some n → numbered n e ≡ e
+  by_extra : (e : Extra) → number_in e ≡ Some n → with_number n e ≡ e
   by_extra (extra.Item value checked) is = let own : value ≡ n = cc in ap (λ k. extra.Item k checked) (sym own)
   by_extra extra.Plain is = refl
   by_extra (extra.List start) is = refl
@@ -49,20 +49,20 @@ same_number n other is = refl
 abbrev pub HasRoomFor : ℕ → ℕ → Working → Type 0
 HasRoomFor n m w = (w.counted + n ≤ most_counts) × (w.written + m ≤ most_written)
 
-fields_known : (o : Option Fields) (n : ℕ) → number_at o ≡ Some n → (x : Fields) × (o ≡ Some x)
+fields_known : (o : Option Fields) (n : ℕ) → item_number o ≡ Some n → (x : Fields) × (o ≡ Some x)
 fields_known (Some x) n is = (x, refl)
 fields_known None n is = absurd (cc)
 
 -- numbering an item that has its number writes the fields that it has
-number_again : (n k : ℕ) (w : Working) → number_at (fields_of w.forest k) ≡ Some n
+number_again : (n k : ℕ) (w : Working) → item_number (fields_of w.forest k) ≡ Some n
     → (o : Fields) × ((fields_of w.forest k ≡ Some o) × (number_item n k w ≡ set_step k o w))
 unfolding number_item change_step
 number_again n k w is =
     let known = fields_known (fields_of w.forest k) n is in
     let o : Fields = known.0 in
-    (o, (known.1, ap (λ x. set_changed (with_extra (numbered n)) k x w) known.1 ∙ ap (λ x. set_step k x w) (same_number n o (sym (ap number_at known.1) ∙ is))))
+    (o, (known.1, ap (λ x. set_changed (with_extra_changed (with_number n)) k x w) known.1 ∙ ap (λ x. set_step k x w) (same_number n o (sym (ap item_number known.1) ∙ is))))
 
-again_done : (n k : ℕ) (w v : Working) → number_at (fields_of w.forest k) ≡ Some n → ((o : Fields) → fields_of w.forest k ≡ Some o → set_step k o w ≡ Ok v)
+again_done : (n k : ℕ) (w v : Working) → item_number (fields_of w.forest k) ≡ Some n → ((o : Fields) → fields_of w.forest k ≡ Some o → set_step k o w ≡ Ok v)
     → number_item n k w ≡ Ok v
 again_done n k w v is done = let same = number_again n k w is in same.1.1 ∙ done same.0 same.1.0
 
@@ -77,7 +77,7 @@ own_items f = own_weight items_in f
 abbrev pub own_characters : Forest → ℕ → ℕ
 own_characters f = own_weight item_characters_in f
 
-item_again : (n k : ℕ) (w : Working) → IsForest w.forest → IsSuited w.forest → is_at is_item w.forest k ≡ true → number_at (fields_of w.forest k) ≡ Some n
+item_again : (n k : ℕ) (w : Working) → IsForest w.forest → IsSuited w.forest → is_at is_item w.forest k ≡ true → item_number (fields_of w.forest k) ≡ Some n
     → HasRoomFor (own_items w.forest k) (own_characters w.forest k) w → number_item n k w ≡ Ok (rewritten (own_items w.forest k) (own_characters w.forest k) w)
 item_again n k w h suited is_it is fits =
     let known = spot_known w.forest k (there_at is_item w.forest k is_it) in
@@ -101,7 +101,7 @@ item_again n k w h suited is_it is fits =
 -- each of these has its number, where the first of them is to have this one
 abbrev HaveNumbers : Forest → ℕ → List ℕ → Type 0
 HaveNumbers f n items =
-    (i item : ℕ) → slice_get items i ≡ Some item → number_at (fields_of f item) ≡ Some (n + count_by (λ q. not (is_nesting f q)) (take i items))
+    (i item : ℕ) → slice_get items i ≡ Some item → item_number (fields_of f item) ≡ Some (n + count_by (λ q. not (is_nesting f q)) (take i items))
 
 next_have : (f : Forest) (n item : ℕ) (items : List ℕ) → HaveNumbers f n (item ∷ items) → HaveNumbers f (cond (is_nesting f item) n (n + 1)) items
 next_have f n item items have i q at =
@@ -125,7 +125,7 @@ items_again n (item ∷ items) w h suited are have fits =
     let b : ℕ = own_characters f item in
     let more : sum_by (own_items f) (item ∷ items) ≡ a + sum_by (own_items f) items = sum_by-cons (own_items f) item items in
     let longer : sum_by (own_characters f) (item ∷ items) ≡ b + sum_by (own_characters f) items = sum_by-cons (own_characters f) item items in
-    let here : number_at (fields_of f item) ≡ Some n = have 0 item refl ∙ ap Some (omega arith) in
+    let here : item_number (fields_of f item) ≡ Some n = have 0 item refl ∙ ap Some (omega arith) in
     let v : Working = rewritten a b w in
     let first : number_item n item w ≡ Ok v =
     item_again n item w h suited (are item (grind (arith, eqb_tells item item))) here (omega (arith, fits.0, more), omega (arith, fits.1, longer)) in
@@ -143,6 +143,6 @@ pub list_again : (list : ℕ) (w : Working) → IsForest w.forest → IsHeld may
     → HasRoomFor (sum_by (own_items w.forest) (children_of w.forest list)) (sum_by (own_characters w.forest) (children_of w.forest list)) w
     → list_numbered list w
     ≡ Ok (rewritten (sum_by (own_items w.forest) (children_of w.forest list)) (sum_by (own_characters w.forest) (children_of w.forest list)) w)
-list_again list w h held suited is numbered fits =
-    items_again (start_at (fields_of w.forest list)) (children_of w.forest list) w h suited
-    (λ q among. item_below w.forest list q held is (parent_there w.forest list q h among)) numbered fits
+list_again list w h held suited is with_number fits =
+    items_again (list_start (fields_of w.forest list)) (children_of w.forest list) w h suited
+    (λ q among. item_below w.forest list q held is (parent_there w.forest list q h among)) with_number fits

@@ -26,10 +26,10 @@ use Rattle.lx_caret.proofs.Fit.{each_moved, each_all, after_tells, Fit, Stays, s
 use Rattle.lx_caret.proofs.Moves.{stays_behind, put_behind_in, stays_each_moved}
 use Rattle.lx_caret.proofs.Removes.{IsClear, remove_fits}
 use Rattle.lx_caret.proofs.Adds.{new_kind}
-use Rattle.lx_list.specs.Lines.{if_there}
+use Rattle.lx_list.specs.Lines.{step_if_there}
 use Rattle.lx_list.specs.Outdenting.{items_behind, out_of}
-use Rattle.lx_list.specs.Ending.{rest_parted, paragraph_behind, ended_by, ended_in, paragraph_in_item_step}
-use Rattle.lx_list.specs.Laws.{KeepsLying}
+use Rattle.lx_list.specs.Ending.{rest_parted, paragraph_behind, list_ended_by, ended_in, paragraph_in_item_step}
+use Rattle.lx_list.specs.Laws.{KeepsLyingInTree}
 use Rattle.lx_list.proofs.Moved.{stays_like, outside_new, outside_like, outside_behind, outside_each, new_outside}
 use Rattle.lx_list.proofs.Outs.{out_of_fits}
 
@@ -122,7 +122,7 @@ behind_fits x list w v fit there up e =
 -- ---- by what the list is in
 
 ended_fits : (x list : ℕ) (above : Option ℕ) (w v : Working) → Fit w → is_attached w.forest x ≡ true → parent_of w.forest x ≡ Some list
-    → parent_of w.forest list ≡ above → ended_by x list above w ≡ Ok v → Fit v
+    → parent_of w.forest list ≡ above → list_ended_by x list above w ≡ Ok v → Fit v
 ended_fits x list None w v fit there up over e = let is : w ≡ v = cc in subst Fit is fit
 ended_fits x list (Some above) w v fit there up over e = by_test (is_at is_item w.forest above) e where
   place : is_attached w.forest above ≡ true
@@ -143,7 +143,7 @@ pub paragraph_in_item_fits : (x : ℕ) (w v : Working) → Fit w → is_attached
 unfolding paragraph_in_item_step
 paragraph_in_item_fits x w v fit there e = ended_in_fits x (parent_of w.forest x) w v fit there refl e
 
-pub lies-paragraph_in_item : (x : ℕ) → KeepsLying (if_there (paragraph_in_item_step) x)
+pub lies-paragraph_in_item : (x : ℕ) → KeepsLyingInTree (step_if_there (paragraph_in_item_step) x)
 lies-paragraph_in_item x w v ready held short lying e = by_test (is_attached w.forest x) refl e where
   by_test : (b : Bool) → is_attached w.forest x ≡ b → cond b (paragraph_in_item_step x w) (Ok w) ≡ Ok v → IsLying v
   by_test true there e =

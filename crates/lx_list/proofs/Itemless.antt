@@ -20,7 +20,7 @@ use Rattle.lx_draft.specs.Faults.{after}
 use Rattle.lx_edit.specs.InTurn.{in_turn}
 use Rattle.lx_blocks.specs.Blocks.{passes, is_at}
 use Rattle.lx_blocks.proofs.Blocked.{kind_there, first_among}
-use Rattle.lx_list.specs.Numbering.{start_at, numbered_from, list_numbered, number_step}
+use Rattle.lx_list.specs.Numbering.{list_start, numbered_from, list_numbered, number_step}
 use Rattle.lx_list.proofs.Numbered.{parent_there, passes_filter}
 use Rattle.lx_list.proofs.Kept.{held_below}
 
@@ -90,7 +90,7 @@ all_left : (w : Working) (lists : List ℕ) → ((list : ℕ) → is_among list 
 unfolding in_turn numbered_from
 all_left w [] none = refl
 all_left w (list ∷ lists) none =
-    ap (λ xs. after (numbered_from (start_at (fields_of w.forest list)) xs w) (in_turn list_numbered lists)) (none list (grind (arith, eqb_tells list list)))
+    ap (λ xs. after (numbered_from (list_start (fields_of w.forest list)) xs w) (in_turn list_numbered lists)) (none list (grind (arith, eqb_tells list list)))
     ∙ all_left w lists (λ other among. none other (grind (arith, among)))
 
 pub number_itemless : (w : Working) → IsForest w.forest → IsHeld may_hold w.forest → weight items_in w.forest ≡ 0 → number_step w ≡ Ok w

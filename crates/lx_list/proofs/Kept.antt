@@ -20,15 +20,15 @@ use Rattle.std.proofs.lemmas.List.Sums.{sum_by-cons}
 use Rattle.lx_forest.specs.Suited.{is_suited, IsSuited}
 use Rattle.lx_blocks.specs.Blocks.{passes}
 use Rattle.lx_list.specs.Nesting.{is_nesting}
-use Rattle.lx_list.specs.Numbering.{start_at}
-use Rattle.lx_list.specs.Numbered.{number_in, number_at, due, IsNumberedList}
+use Rattle.lx_list.specs.Numbering.{list_start}
+use Rattle.lx_list.specs.Numbered.{number_in, item_number, due, IsNumberedList}
 use Rattle.lx_list.proofs.Numbered.{HasItems}
 
 -- ---- rest and joining know nothing of it
 
 -- ---- the children of lists are items, with numbers
 
-suited-item : (kind : Kind) (o : Fields) → is_item kind ≡ true → is_of_kind kind o ≡ true → is_some (number_at (Some o)) ≡ true
+suited-item : (kind : Kind) (o : Fields) → is_item kind ≡ true → is_of_kind kind o ≡ true → is_some (item_number (Some o)) ≡ true
 unfolding is_item is_of_kind is_possible fits_kind is_element_of is_extra_of is_item_extra
 suited-item Item (fields.Element element) is suited = by_extra element.extra suited where
   by_extra : (e : Extra) → is_extra_of Item e ≡ true → is_some (number_in e) ≡ true
@@ -52,7 +52,7 @@ HasItems-held f held suited list q is_a_list up = by_spots (spot f list) (spot f
   some_is : {A : Type 0} (a b : A) → ◌≡◌ {A = Option A} (Some a) (Some b) → a ≡ b
   some_is a b e = cc
 
-  by_spots : (o p : Option (Spot Label)) → spot f list ≡ o → spot f q ≡ p → is_some (number_at (fields_of f q)) ≡ true
+  by_spots : (o p : Option (Spot Label)) → spot f list ≡ o → spot f q ≡ p → is_some (item_number (fields_of f q)) ≡ true
   by_spots None p e g = let b : false ≡ true =
       sym (ap (λ x. passes is_list (option_map (λ (l : Label). l.kind) (option_map (λ (s : Spot Label). s.label) x))) e) ∙ is_a_list in absurd (cc)
   by_spots (Some outer) None e g = let b : None ≡ Some list = sym (ap parent_at g) ∙ up in absurd (cc)
@@ -65,16 +65,16 @@ HasItems-held f held suited list q is_a_list up = by_spots (spot f list) (spot f
       ∙ held.each q list up in
       let suits : is_of_kind inner.label.kind inner.label.fields ≡ true =
       sym (ap (λ x. is_suited (option_map (λ (s : Spot Label). s.label) x)) g) ∙ suited.each q in
-      ap (λ x. is_some (number_at (option_map (λ (l : Label). l.fields) (option_map (λ (s : Spot Label). s.label) x)))) g
+      ap (λ x. is_some (item_number (option_map (λ (l : Label). l.fields) (option_map (λ (s : Spot Label). s.label) x)))) g
       ∙ suited-item inner.label.kind inner.label.fields (held_below outer.label.kind inner.label.kind a_list held_in) suits
 
 -- ---- lists that stay numbered
 
 -- nothing of a list's start, its children, their numbers and whether they are nesting has changed
 pub record IsUnchanged (f g : Forest) (list : ℕ) : Type 0 where
-  pub start : start_at (fields_of g list) ≡ start_at (fields_of f list)
+  pub start : list_start (fields_of g list) ≡ list_start (fields_of f list)
   pub children : children_of g list ≡ children_of f list
-  pub numbers : (q : ℕ) → is_among q (children_of f list) ≡ true → number_at (fields_of g q) ≡ number_at (fields_of f q)
+  pub numbers : (q : ℕ) → is_among q (children_of f list) ≡ true → item_number (fields_of g q) ≡ item_number (fields_of f q)
   pub nesting : (q : ℕ) → is_among q (children_of f list) ≡ true → is_nesting g q ≡ is_nesting f q
 
 count-agree_among : (p r : ℕ → Bool) (xs : List ℕ) → ((q : ℕ) → is_among q xs ≡ true → p q ≡ r q) → (i : ℕ) → count_by p (take i xs) ≡ count_by r (take i xs)
@@ -95,6 +95,6 @@ stays_numbered f g list u numbered i item at =
     due_same : due g list i ≡ due f list i
     due_same =
         ap (λ n. n + count_by (λ q. not (is_nesting g q)) (take i (children_of g list))) u.start
-        ∙ ap (λ xs. start_at (fields_of f list) + count_by (λ q. not (is_nesting g q)) (take i xs)) u.children
-        ∙ ap (λ n. start_at (fields_of f list) + n)
+        ∙ ap (λ xs. list_start (fields_of f list) + count_by (λ q. not (is_nesting g q)) (take i xs)) u.children
+        ∙ ap (λ n. list_start (fields_of f list) + n)
         (count-agree_among (λ q. not (is_nesting g q)) (λ q. not (is_nesting f q)) (children_of f list) (λ q among. ap not (u.nesting q among)) i)

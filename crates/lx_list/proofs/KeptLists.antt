@@ -2,6 +2,7 @@
 use Rattle.std.proofs.Common.{◌≡◌, ◌≢◌, ◌∙◌, ◌⊎◌, ℕ, zero, suc, ◌+◌, ◌<◌, ◌≤◌, Bool, true, false, cond, eqb, ◌||◌, ◌&&◌, List, [], ◌∷◌, ◌++◌, length, get_or, take, Option, None, Some, refl, sym, ap, subst, arith, inl, inr}
 use Rattle.std.specs.Prelude.{filter, insert, option_map, is_some, slice_get}
 use Rattle.std.specs.List.{list_any}
+use Rattle.std.proofs.Math.Seq.{take-suc}
 use Rattle.std.proofs.lemmas.List.Folds.{list_any_more, list_any-append}
 use Rattle.std.proofs.lemmas.Bool.{cases_Bool}
 use Rattle.std.proofs.lemmas.Bool.Decides.{eqb_tells, nat_tests}
@@ -292,9 +293,9 @@ kept_element f passed e p =
 
 -- the elements that were passed, and one more
 pub element_more : (es : List (ℕ × Bool)) (i : ℕ) (e : ℕ × Bool) → i < length es → e ≡ get_or es i e → take (i + 1) es ≡ take i es ++ e ∷ []
-element_more [] i e less is = absurd (omega arith)
-element_more (f ∷ es) zero e less is = ap (λ x. x ∷ []) (sym is)
-element_more (f ∷ es) (suc i) e less is = ap (λ xs. f ∷ xs) (element_more es i e (omega arith) is)
+element_more es i e less is =
+    let one : suc i ≡ i + 1 = omega arith in
+    ap (λ n. take n es) (sym one) ∙ take-suc es i e less ∙ ap (λ (x : ℕ × Bool). take i es ++ x ∷ []) (sym is)
 
 pub nothing_kept : (xs : List ℕ) → filter (λ q. false) xs ≡ []
 nothing_kept [] = refl

@@ -28,35 +28,35 @@ use Rattle.lx_draft.specs.Steps.{set_step}
 use Rattle.lx_draft.proofs.Covered.{answered}
 use Rattle.lx_edit.specs.InTurn.{in_turn}
 use Rattle.lx_blocks.specs.Blocks.{passes, is_at}
-use Rattle.lx_list.specs.Making.{changed, numbered, with_extra, set_changed, change_step, number_item}
+use Rattle.lx_list.specs.Making.{element_fields_changed, with_number, with_extra_changed, set_changed, change_step, number_item}
 use Rattle.lx_list.specs.Nesting.{if_list, is_nesting}
-use Rattle.lx_list.specs.Numbering.{start_in, start_at, numbered_from, list_numbered, number_step}
-use Rattle.lx_list.specs.Numbered.{number_in, number_at, due, IsNumbered}
+use Rattle.lx_list.specs.Numbering.{start_of_list, list_start, numbered_from, list_numbered, number_step}
+use Rattle.lx_list.specs.Numbered.{number_in, item_number, due, AreListsNumbered}
 use Rattle.lx_list.proofs.Alike.{IsAlike, alike-self, alike-then, alike-set, changed-seen, children-alike, kind-alike, fields-alike}
 
 -- ---- what alike forests have in common
 
-start-seen : (e : Extra) → start_in (unnumbered e) ≡ start_in e
+start-seen : (e : Extra) → start_of_list (unnumbered e) ≡ start_of_list e
 start-seen extra.Plain = refl
 start-seen other = refl
 
-start_at-seen : (o : Option Fields) → start_at (option_map seen_fields o) ≡ start_at o
+start_at-seen : (o : Option Fields) → list_start (option_map seen_fields o) ≡ list_start o
 start_at-seen (Some (fields.Element element)) = start-seen element.extra
 start_at-seen other = refl
 
-pub start-alike : (f g : Forest) → IsAlike f g → (q : ℕ) → start_at (fields_of g q) ≡ start_at (fields_of f q)
-start-alike f g a q = sym (start_at-seen (fields_of g q)) ∙ ap start_at (fields-alike f g a q) ∙ start_at-seen (fields_of f q)
+pub start-alike : (f g : Forest) → IsAlike f g → (q : ℕ) → list_start (fields_of g q) ≡ list_start (fields_of f q)
+start-alike f g a q = sym (start_at-seen (fields_of g q)) ∙ ap list_start (fields-alike f g a q) ∙ start_at-seen (fields_of f q)
 
 numbered-extra-seen : (e : Extra) → is_some (number_in (unnumbered e)) ≡ is_some (number_in e)
 numbered-extra-seen extra.Plain = refl
 numbered-extra-seen other = refl
 
-is_item-seen : (o : Option Fields) → is_some (number_at (option_map seen_fields o)) ≡ is_some (number_at o)
+is_item-seen : (o : Option Fields) → is_some (item_number (option_map seen_fields o)) ≡ is_some (item_number o)
 is_item-seen (Some (fields.Element element)) = numbered-extra-seen element.extra
 is_item-seen other = refl
 
-pub is_item-alike : (f g : Forest) → IsAlike f g → (q : ℕ) → is_some (number_at (fields_of g q)) ≡ is_some (number_at (fields_of f q))
-is_item-alike f g a q = sym (is_item-seen (fields_of g q)) ∙ ap (λ o. is_some (number_at o)) (fields-alike f g a q) ∙ is_item-seen (fields_of f q)
+pub is_item-alike : (f g : Forest) → IsAlike f g → (q : ℕ) → is_some (item_number (fields_of g q)) ≡ is_some (item_number (fields_of f q))
+is_item-alike f g a q = sym (is_item-seen (fields_of g q)) ∙ ap (λ o. is_some (item_number o)) (fields-alike f g a q) ∙ is_item-seen (fields_of f q)
 
 pub is_at-alike : (f g : Forest) → IsAlike f g → (test : Kind → Bool) (q : ℕ) → is_at test g q ≡ is_at test f q
 is_at-alike f g a test q = ap (passes test) (kind-alike f g a q)
@@ -76,15 +76,15 @@ count-agree p r same (x ∷ xs) = grind (arith, same x, count-agree p r same xs)
 pub due-alike : (f g : Forest) → IsAlike f g → (list i : ℕ) → due g list i ≡ due f list i
 due-alike f g a list i =
     ap (λ n. n + count_by (λ q. not (is_nesting g q)) (take i (children_of g list))) (start-alike f g a list)
-    ∙ ap (λ n. start_at (fields_of f list) + n)
+    ∙ ap (λ n. list_start (fields_of f list) + n)
     (count-agree (λ q. not (is_nesting g q)) (λ q. not (is_nesting f q)) (λ q. ap not (nesting-alike f g a q)) (take i (children_of g list))
     ∙ ap (λ xs. count_by (λ q. not (is_nesting f q)) (take i xs)) (children-alike f g a list))
 
 -- ---- one item
 
-item_numbered : (n : ℕ) (o : Fields) → is_some (number_at (Some o)) ≡ true → number_at (Some (changed (with_extra (numbered n)) o)) ≡ Some n
+item_numbered : (n : ℕ) (o : Fields) → is_some (item_number (Some o)) ≡ true → item_number (Some (element_fields_changed (with_extra_changed (with_number n)) o)) ≡ Some n
 item_numbered n (fields.Element element) h = by_extra element.extra h where
-  by_extra : (e : Extra) → is_some (number_in e) ≡ true → number_in (numbered n e) ≡ Some n
+  by_extra : (e : Extra) → is_some (number_in e) ≡ true → number_in (with_number n e) ≡ Some n
   by_extra extra.Plain h = absurd (cc)
   by_extra (extra.List start) h = absurd (cc)
   by_extra (extra.Item value checked) h = refl
@@ -99,7 +99,7 @@ set_forest k o w v e = sym (ap (λ (u : Working). u.forest) (answered _ _ v e).1
 -- what a step that gives an item its number does: the forest is alike, the item has it, and others have what they had
 pub record IsGiven (k n : ℕ) (f g : Forest) : Type 0 where
   pub alike : IsAlike f g
-  pub here : is_some (number_at (fields_of f k)) ≡ true → number_at (fields_of g k) ≡ Some n
+  pub here : is_some (item_number (fields_of f k)) ≡ true → item_number (fields_of g k) ≡ Some n
   pub others : (q : ℕ) → (q ≡ k → ⊥) → fields_of g q ≡ fields_of f q
 
 there-set : (k : ℕ) (new old : Fields) (f : Forest) → fields_of f k ≡ Some old → fields_of (with_fields k new f) k ≡ Some new
@@ -115,22 +115,22 @@ other-set k q new f other =
     same None e = refl
     same (Some old) e = rw e refl
 
-given_by : (n k : ℕ) (o : Option Fields) (w v : Working) → fields_of w.forest k ≡ o → set_changed (with_extra (numbered n)) k o w ≡ Ok v
+given_by : (n k : ℕ) (o : Option Fields) (w v : Working) → fields_of w.forest k ≡ o → set_changed (with_extra_changed (with_number n)) k o w ≡ Ok v
     → IsGiven k n w.forest v.forest
 given_by n k None w v was e =
     let same : w ≡ v = cc in
     subst (λ (u : Working). IsGiven k n w.forest u.forest) same
     (record { alike = alike-self w.forest; here = λ h. absurd (none_there h); others = λ q other. refl })
   where
-    none_there : is_some (number_at (fields_of w.forest k)) ≡ true → ⊥
-    none_there h = let f : is_some (number_at None) ≡ true = sym (ap (λ o. is_some (number_at o)) was) ∙ h in absurd (cc)
+    none_there : is_some (item_number (fields_of w.forest k)) ≡ true → ⊥
+    none_there h = let f : is_some (item_number None) ≡ true = sym (ap (λ o. is_some (item_number o)) was) ∙ h in absurd (cc)
 given_by n k (Some old) w v was e =
-    let new : Fields = changed (with_extra (numbered n)) old in
+    let new : Fields = element_fields_changed (with_extra_changed (with_number n)) old in
     let is : v.forest ≡ with_fields k new w.forest = set_forest k new w v e in
     subst (IsGiven k n w.forest) (sym is)
     (record {
       alike = alike-set w.forest k old new was (changed-seen n old);
-      here = λ h. ap number_at (there-set k new old w.forest was) ∙ item_numbered n old (sym (ap (λ o. is_some (number_at o)) was) ∙ h);
+      here = λ h. ap item_number (there-set k new old w.forest was) ∙ item_numbered n old (sym (ap (λ o. is_some (item_number o)) was) ∙ h);
       others = λ q other. other-set k q new w.forest other;
     })
 
@@ -145,7 +145,7 @@ abbrev pub due_at : Forest → ℕ → ℕ
 due_at f q = due f (unwrap_or (parent_of f q) 0) (unwrap_or (index_of f q) 0)
 
 abbrev pub IsRight : Forest → Forest → ℕ → Type 0
-IsRight f g q = number_at (fields_of g q) ≡ Some (due_at f q)
+IsRight f g q = item_number (fields_of g q) ≡ Some (due_at f q)
 
 -- Numbers are written as a forest says: it is alike, what was right stays so, and these are right.
 pub record AreGiven (f : Forest) (g h : Forest) (ks : List ℕ) : Type 0 where
@@ -155,9 +155,9 @@ pub record AreGiven (f : Forest) (g h : Forest) (ks : List ℕ) : Type 0 where
 
 -- the children of lists are items
 abbrev pub HasItems : Forest → Type 0
-HasItems f = (list q : ℕ) → is_at is_list f list ≡ true → parent_of f q ≡ Some list → is_some (number_at (fields_of f q)) ≡ true
+HasItems f = (list q : ℕ) → is_at is_list f list ≡ true → parent_of f q ≡ Some list → is_some (item_number (fields_of f q)) ≡ true
 
-one_given : (f : Forest) (k n : ℕ) (w v : Working) → IsAlike f w.forest → n ≡ due_at f k → is_some (number_at (fields_of f k)) ≡ true
+one_given : (f : Forest) (k n : ℕ) (w v : Working) → IsAlike f w.forest → n ≡ due_at f k → is_some (item_number (fields_of f k)) ≡ true
     → number_item n k w ≡ Ok v → AreGiven f w.forest v.forest (k ∷ [])
 one_given f k n w v a due_is item e =
     let g = given n k w v e in
@@ -170,7 +170,7 @@ one_given f k n w v a due_is item e =
   where
     by_key : (q : ℕ) → IsRight f w.forest q → (eqb q k ≡ true) ⊎ (eqb q k ≡ false) → IsGiven k n w.forest v.forest → IsRight f v.forest k → IsRight f v.forest q
     by_key q was (inl same) g here = let is : k ≡ q = grind (arith, same, eqb_tells q k) in subst (IsRight f v.forest) is here
-    by_key q was (inr other) g here = ap number_at (g.others q (grind (arith, other, eqb_tells q k))) ∙ was
+    by_key q was (inr other) g here = ap item_number (g.others q (grind (arith, other, eqb_tells q k))) ∙ was
 
 given-then : (f g h i : Forest) (ks ls : List ℕ) → AreGiven f g h ks → AreGiven f h i ls → AreGiven f g i (ks ++ ls)
 given-then f g h i ks ls a b = record {
@@ -211,9 +211,9 @@ counts f before = count_by (λ item. not (is_nesting f item)) before
 
 -- the number that comes to an item after others
 due-append : (f : Forest) (list q : ℕ) (before rest : List ℕ) → before ++ q ∷ rest ≡ children_of f list
-    → due f list (length before) ≡ start_at (fields_of f list) + counts f before
+    → due f list (length before) ≡ list_start (fields_of f list) + counts f before
 due-append f list q before rest whole =
-    ap (λ xs. start_at (fields_of f list) + counts f xs) (ap (take (length before)) (sym whole) ∙ take-append_seam before (q ∷ rest))
+    ap (λ xs. list_start (fields_of f list) + counts f xs) (ap (take (length before)) (sym whole) ∙ take-append_seam before (q ∷ rest))
 
 -- ... and to the next
 pub next_due : (f : Forest) (q start : ℕ) (before : List ℕ)
@@ -235,7 +235,7 @@ first_ok (Ok u) next v e = (u, refl, e)
 first_ok (Err cause) next v e = absurd (cc)
 
 pub items_given : (f : Forest) (list n : ℕ) (before items : List ℕ) (w v : Working) → IsForest f → HasItems f → is_at is_list f list ≡ true → IsAlike f w.forest
-    → before ++ items ≡ children_of f list → n ≡ start_at (fields_of f list) + counts f before → numbered_from n items w ≡ Ok v
+    → before ++ items ≡ children_of f list → n ≡ list_start (fields_of f list) + counts f before → numbered_from n items w ≡ Ok v
     → AreGiven f w.forest v.forest items
 unfolding numbered_from
 items_given f list n before [] w v h items_there is_a_list a whole n_is e = none_given f w v a (ok_is e) where
@@ -245,9 +245,9 @@ items_given f list n before (q ∷ items) w v h items_there is_a_list a whole n_
     let at : slice_get (children_of f list) (length before) ≡ Some q = ap (λ xs. slice_get xs (length before)) (sym whole) ∙ at-append before q items in
     let up : parent_of f q ≡ Some list = parent_there f list q h (is_among-slice_get (children_of f list) q (length before) at) in
     let due_is : n ≡ due_at f q = n_is ∙ sym (due-append f list q before items whole) ∙ sym (due_there f list q (length before) h at) in
-    let next_is : cond (is_nesting w.forest q) n (n + 1) ≡ start_at (fields_of f list) + counts f (before ++ q ∷ []) =
+    let next_is : cond (is_nesting w.forest q) n (n + 1) ≡ list_start (fields_of f list) + counts f (before ++ q ∷ []) =
     ap (λ b. cond b n (n + 1)) (nesting-alike f w.forest a q) ∙ ap (λ m. cond (is_nesting f q) m (m + 1)) n_is
-    ∙ next_due f q (start_at (fields_of f list)) before in
+    ∙ next_due f q (list_start (fields_of f list)) before in
     let first = first_ok (number_item n q w) (numbered_from (cond (is_nesting w.forest q) n (n + 1)) items) v e in
     let u : Working = first.0 in
     let here : AreGiven f w.forest u.forest (q ∷ []) = one_given f q n w u a due_is (items_there list q is_a_list up) first.1 in
@@ -269,9 +269,9 @@ pub record AreNumbered (f g h : Forest) (lists : List ℕ) : Type 0 where
 pub list_given : (f : Forest) (list : ℕ) (w v : Working) → IsForest f → HasItems f → is_at is_list f list ≡ true → IsAlike f w.forest → list_numbered list w ≡ Ok v
     → AreGiven f w.forest v.forest (children_of f list)
 list_given f list w v h items is_a_list a e =
-    items_given f list (start_at (fields_of f list)) [] (children_of f list) w v h items is_a_list a refl (omega arith)
+    items_given f list (list_start (fields_of f list)) [] (children_of f list) w v h items is_a_list a refl (omega arith)
     (ap (λ n. numbered_from n (children_of f list) w) (sym (start-alike f w.forest a list))
-    ∙ ap (λ xs. numbered_from (start_at (fields_of w.forest list)) xs w) (sym (children-alike f w.forest a list)) ∙ e)
+    ∙ ap (λ xs. numbered_from (list_start (fields_of w.forest list)) xs w) (sym (children-alike f w.forest a list)) ∙ e)
 
 pub lists_given : (f : Forest) (lists : List ℕ) (w v : Working) → IsForest f → HasItems f
     → ((list : ℕ) → is_among list lists ≡ true → is_at is_list f list ≡ true) → IsAlike f w.forest
@@ -323,7 +323,7 @@ passes_filter p (x ∷ xs) q among =
       | inr out ↦ passes_filter p xs q (rw out at among)
     ]
 
-pub numbered-number : (w v : Working) → IsForest w.forest → HasItems w.forest → number_step w ≡ Ok v → IsNumbered v.forest × IsAlike w.forest v.forest
+pub numbered-number : (w v : Working) → IsForest w.forest → HasItems w.forest → number_step w ≡ Ok v → AreListsNumbered v.forest × IsAlike w.forest v.forest
 unfolding number_step
 numbered-number w v h items e =
     let lists : List ℕ = filter (is_at is_list w.forest) (preorder w.forest) in
@@ -333,7 +333,7 @@ numbered-number w v h items e =
   where
     numbered_at : (list i item : ℕ) → AreNumbered w.forest w.forest v.forest (filter (is_at is_list w.forest) (preorder w.forest))
         → is_attached v.forest list ≡ true → is_at is_list v.forest list ≡ true
-        → slice_get (children_of v.forest list) i ≡ Some item → number_at (fields_of v.forest item) ≡ Some (due v.forest list i)
+        → slice_get (children_of v.forest list) i ≡ Some item → item_number (fields_of v.forest item) ≡ Some (due v.forest list i)
     numbered_at list i item all attached is_a_list at =
         let was_at : slice_get (children_of w.forest list) i ≡ Some item =
         ap (λ xs. slice_get xs i) (sym (children-alike w.forest v.forest all.alike list)) ∙ at in

@@ -21,10 +21,10 @@ use Rattle.lx_blocks.specs.Blocks.{is_at}
 use Rattle.lx_list.specs.declared.parts.Part.{Part}
 use Rattle.lx_list.specs.Making.{number_item}
 use Rattle.lx_list.specs.Nesting.{is_nesting}
-use Rattle.lx_list.specs.Numbering.{start_at, numbered_from, list_numbered}
-use Rattle.lx_list.specs.Numbered.{number_at}
+use Rattle.lx_list.specs.Numbering.{list_start, numbered_from, list_numbered}
+use Rattle.lx_list.specs.Numbered.{item_number}
 use Rattle.lx_list.specs.Touched.{items_below, characters_below}
-use Rattle.lx_list.specs.Parts.{number_behind, HaveNumbers, IsPart, AreParts, part_numbered, items_of, characters_of, IsSmall, AreSmall}
+use Rattle.lx_list.specs.Parts.{number_behind, HaveNumbers, IsUnnumberedPart, AreParts, part_numbered, items_of, part_characters, IsPartSmall, AreSmall}
 use Rattle.lx_list.proofs.Alike.{IsAlike, children-alike}
 use Rattle.lx_list.proofs.Counted.{HasRoomFor, own_items, own_characters, items_again}
 use Rattle.lx_list.proofs.Numbered.{given, is_at-alike, nesting-alike, start-alike, count-agree, parent_there}
@@ -75,16 +75,16 @@ number_behind-alike f g a n items =
 
 -- items that have their numbers, by their places
 have_places : (f : Forest) (n : ℕ) (items : List ℕ) → HaveNumbers f n items → (i item : ℕ) → slice_get items i ≡ Some item
-    → number_at (fields_of f item) ≡ Some (n + count_by (λ q. not (is_nesting f q)) (take i items))
+    → item_number (fields_of f item) ≡ Some (n + count_by (λ q. not (is_nesting f q)) (take i items))
 have_places f n [] have i item at = absurd (cc)
 have_places f n (x ∷ items) have zero item at =
-    let is : x ≡ item = cc in ap (λ q. number_at (fields_of f q)) (sym is) ∙ have.0 ∙ ap Some (omega arith)
+    let is : x ≡ item = cc in ap (λ q. item_number (fields_of f q)) (sym is) ∙ have.0 ∙ ap Some (omega arith)
 have_places f n (x ∷ items) have (suc i) item at =
     have_places f (cond (is_nesting f x) n (n + 1)) items have.1 i item at ∙ ap Some (count_first f n x (take i items))
 
 -- they have them still in an alike forest in which their numbers are the same
 have_kept : (f g : Forest) (n : ℕ) (items : List ℕ) → IsAlike f g
-    → ((q : ℕ) → is_among q items ≡ true → number_at (fields_of g q) ≡ number_at (fields_of f q)) → HaveNumbers f n items → HaveNumbers g n items
+    → ((q : ℕ) → is_among q items ≡ true → item_number (fields_of g q) ≡ item_number (fields_of f q)) → HaveNumbers f n items → HaveNumbers g n items
 have_kept f g n [] a same have = tt
 have_kept f g n (item ∷ items) a same have = (
   same item (grind (arith, eqb_tells item item)) ∙ have.0,
@@ -96,14 +96,14 @@ have_kept f g n (item ∷ items) a same have = (
 
 -- items that aren't numbered keep what they have
 others_kept : (n : ℕ) (items : List ℕ) (w v : Working) → numbered_from n items w ≡ Ok v → (q : ℕ) → is_among q items ≡ false
-    → number_at (fields_of v.forest q) ≡ number_at (fields_of w.forest q)
+    → item_number (fields_of v.forest q) ≡ item_number (fields_of w.forest q)
 unfolding numbered_from
-others_kept n [] w v e q out = let same : v ≡ w = cc in ap (λ (u : Working). number_at (fields_of u.forest q)) same
+others_kept n [] w v e q out = let same : v ≡ w = cc in ap (λ (u : Working). item_number (fields_of u.forest q)) same
 others_kept n (item ∷ items) w v e q out =
     let next : ℕ = cond (is_nesting w.forest item) n (n + 1) in
     let both = both_ok (number_item n item w) (numbered_from next items) v e in
     others_kept next items both.0 v both.2 q (grind (arith, out))
-    ∙ ap number_at ((given n item w both.0 both.1).others q (grind (arith, out, eqb_tells item q)))
+    ∙ ap item_number ((given n item w both.0 both.1).others q (grind (arith, out, eqb_tells item q)))
 
 -- items are numbered, and then those behind them
 numbered-append : (n : ℕ) (xs ys : List ℕ) (w : Working)
@@ -187,26 +187,26 @@ between n front items behind w s are once have_front have_behind fits =
 -- ---- one list
 
 -- the children of a list, in front of its part, in it and behind it
-in_three : (f : Forest) (list number : ℕ) (items : List ℕ) (p : IsPart f list number items) → children_of f list ≡ p.front ++ (items ++ p.behind)
+in_three : (f : Forest) (list number : ℕ) (items : List ℕ) (p : IsUnnumberedPart f list number items) → children_of f list ≡ p.front ++ (items ++ p.behind)
 in_three f list number items p = p.children ∙ append_assoc p.front items p.behind
 
 -- what those around a part of a list weigh
-abbrev around : (g : ℕ → ℕ) (f : Forest) (list number : ℕ) (items : List ℕ) → IsPart f list number items → ℕ
+abbrev around : (g : ℕ → ℕ) (f : Forest) (list number : ℕ) (items : List ℕ) → IsUnnumberedPart f list number items → ℕ
 around g f list number items p = sum_by g p.front + sum_by g p.behind
 
-around_whole : (g : ℕ → ℕ) (f : Forest) (list number : ℕ) (items : List ℕ) (p : IsPart f list number items)
+around_whole : (g : ℕ → ℕ) (f : Forest) (list number : ℕ) (items : List ℕ) (p : IsUnnumberedPart f list number items)
     → around g f list number items p + sum_by g items ≡ sum_by g (children_of f list)
 around_whole g f list number items p = omega (arith, sum_three g p.front items p.behind, ap (sum_by g) (in_three f list number items p))
 
 -- numbering a list is to number its part, and to count the others
 list_parted : (list number : ℕ) (items : List ℕ) (w : Working) → IsSound w.forest → is_at is_list w.forest list ≡ true
-    → (p : IsPart w.forest list number items) → HasRoomFor (items_below w.forest list) (characters_below w.forest list) w
+    → (p : IsUnnumberedPart w.forest list number items) → HasRoomFor (items_below w.forest list) (characters_below w.forest list) w
     → list_numbered list w
     ≡ after (numbered_from number items w) (λ u. Ok (rewritten (around (own_items w.forest) w.forest list number items p)
     (around (own_characters w.forest) w.forest list number items p) u))
 list_parted list number items w s is p fits =
     let f : Forest = w.forest in
-    let start : ℕ = start_at (fields_of f list) in
+    let start : ℕ = list_start (fields_of f list) in
     let whole : children_of f list ≡ p.front ++ (items ++ p.behind) = in_three f list number items p in
     ap (λ xs. numbered_from start xs w) whole
     ∙ between start p.front items p.behind w s (subst (AreItems f) whole (items_there f list s is))
@@ -219,16 +219,16 @@ list_parted list number items w s is p fits =
 -- ---- parts stay parts
 
 part_kept : (f g : Forest) (list number : ℕ) (items : List ℕ) → IsAlike f g
-    → ((q : ℕ) → is_among q (children_of f list) ≡ true → number_at (fields_of g q) ≡ number_at (fields_of f q))
-    → IsPart f list number items → IsPart g list number items
+    → ((q : ℕ) → is_among q (children_of f list) ≡ true → item_number (fields_of g q) ≡ item_number (fields_of f q))
+    → IsUnnumberedPart f list number items → IsUnnumberedPart g list number items
 part_kept f g list number items a same p = record {
   front = p.front;
   behind = p.behind;
   children = children-alike f g a list ∙ p.children;
-  number_is = p.number_is ∙ sym (number_behind-alike f g a (start_at (fields_of f list)) p.front)
+  number_is = p.number_is ∙ sym (number_behind-alike f g a (list_start (fields_of f list)) p.front)
       ∙ ap (λ m. number_behind g m p.front) (sym (start-alike f g a list));
   front_numbered = subst (λ m. HaveNumbers g m p.front) (sym (start-alike f g a list))
-      (have_kept f g (start_at (fields_of f list)) p.front a
+      (have_kept f g (list_start (fields_of f list)) p.front a
       (λ q among. same q (ap (is_among q) (in_three f list number items p) ∙ in_left p.front (items ++ p.behind) q among)) p.front_numbered);
   behind_numbered = subst (λ m. HaveNumbers g m p.behind) (sym (number_behind-alike f g a number items))
       (have_kept f g (number_behind f number items) p.behind a
@@ -237,7 +237,7 @@ part_kept f g list number items a same p = record {
 }
 
 parts_kept : (f g : Forest) (lists : List ℕ) (parts : List Part) → IsAlike f g
-    → ((list q : ℕ) → is_among list lists ≡ true → is_among q (children_of f list) ≡ true → number_at (fields_of g q) ≡ number_at (fields_of f q))
+    → ((list q : ℕ) → is_among list lists ≡ true → is_among q (children_of f list) ≡ true → item_number (fields_of g q) ≡ item_number (fields_of f q))
     → AreParts f lists parts → AreParts g lists parts
 parts_kept f g [] [] a same are = tt
 parts_kept f g (list ∷ lists) (part ∷ parts) a same are = (
@@ -248,7 +248,7 @@ parts_kept f g [] (part ∷ parts) a same are = absurd are
 parts_kept f g (list ∷ lists) [] a same are = absurd are
 
 -- a child of another list isn't among the items of this one
-of_other : (f : Forest) (list other q number : ℕ) (items : List ℕ) → IsForest f → IsPart f list number items → (list ≡ other → ⊥)
+of_other : (f : Forest) (list other q number : ℕ) (items : List ℕ) → IsForest f → IsUnnumberedPart f list number items → (list ≡ other → ⊥)
     → is_among q (children_of f other) ≡ true → is_among q items ≡ false
 of_other f list other q number items h p apart among = by_there (is_among q items) refl where
   some_is : (a b : ℕ) → ◌≡◌ (Some a) (Some b) → a ≡ b
@@ -299,8 +299,8 @@ first_list list lists parts w p = p.are list (grind (arith, eqb_tells list list)
 
 -- the part of the first was numbered, and its others were counted
 parted_next : (c d list : ℕ) (lists : List ℕ) (part : Part) (parts : List Part) (w u : Working) → AreParted (list ∷ lists) (part ∷ parts) w
-    → IsTaken (items_of w.forest part) (characters_of w.forest part) w u
-    → c + items_of w.forest part ≡ items_below w.forest list → d + characters_of w.forest part ≡ characters_below w.forest list
+    → IsTaken (items_of w.forest part) (part_characters w.forest part) w u
+    → c + items_of w.forest part ≡ items_below w.forest list → d + part_characters w.forest part ≡ characters_below w.forest list
     → numbered_from part.number part.keys.items w ≡ Ok u → AreParted lists parts (rewritten c d u)
 parted_next c d list lists part parts w u p t c_is d_is e =
     let many = sum-alike items_below items_below-alike w.forest u.forest t.alike lists in
@@ -345,7 +345,7 @@ none_left n m w n_is m_is = ap Ok (sym (ap₂ (λ a b. rewritten a b w) n_is m_i
 
 parted : (lists : List ℕ) (parts : List Part) (w : Working) (n m : ℕ) → AreParted lists parts w
     → n + sum_by (items_of w.forest) parts ≡ sum_by (items_below w.forest) lists
-    → m + sum_by (characters_of w.forest) parts ≡ sum_by (characters_below w.forest) lists
+    → m + sum_by (part_characters w.forest) parts ≡ sum_by (characters_below w.forest) lists
     → in_turn list_numbered lists w ≡ in_turn part_numbered parts (rewritten n m w)
 parted [] [] w n m p n_is m_is = none_left n m w (omega (arith, n_is)) (omega (arith, m_is))
 parted (list ∷ lists) (part ∷ parts) w n m p n_is m_is =
@@ -356,11 +356,11 @@ parted (list ∷ lists) (part ∷ parts) w n m p n_is m_is =
     let c : ℕ = around (own_items f) f list part.number items here in
     let d : ℕ = around (own_characters f) f list part.number items here in
     let c_is : c + items_of f part ≡ items_below f list = around_whole (own_items f) f list part.number items here in
-    let d_is : d + characters_of f part ≡ characters_below f list = around_whole (own_characters f) f list part.number items here in
+    let d_is : d + part_characters f part ≡ characters_below f list = around_whole (own_characters f) f list part.number items here in
     let many = sum_by-cons (items_below f) list lists in
     let long = sum_by-cons (characters_below f) list lists in
     let few = sum_by-cons (items_of f) part parts in
-    let short = sum_by-cons (characters_of f) part parts in
+    let short = sum_by-cons (part_characters f) part parts in
     let less = parts_fit (own_items f) f lists parts p.parted.1 in
     let shorter = parts_fit (own_characters f) f lists parts p.parted.1 in
     let are : AreItems f items =
@@ -403,7 +403,7 @@ pub parts_apart : (lists : List ℕ) (parts : List Part) (w : Working) (n m : �
     → NoRepeats lists
     → AreParts w.forest lists parts
     → n + sum_by (items_of w.forest) parts ≡ sum_by (items_below w.forest) lists
-    → m + sum_by (characters_of w.forest) parts ≡ sum_by (characters_below w.forest) lists
+    → m + sum_by (part_characters w.forest) parts ≡ sum_by (characters_below w.forest) lists
     → HasRoomFor (sum_by (items_below w.forest) lists) (sum_by (characters_below w.forest) lists) w
     → in_turn list_numbered lists w ≡ in_turn part_numbered parts (rewritten n m w)
 parts_apart lists parts w n m h held suited are once are_parts n_is m_is fits =
@@ -419,9 +419,9 @@ count_few t (x ∷ xs) = by_test (t x) (count_by t xs) (count_few t xs) (sum_by-
   by_test true n few is = omega (arith, few, is)
   by_test false n few is = omega (arith, few, is)
 
-pub part_small : (w : Working) (list : ℕ) (part : Part) → IsWorking w → IsSuited w.forest → IsPart w.forest list part.number part.keys.items → IsSmall part
+pub part_small : (w : Working) (list : ℕ) (part : Part) → IsWorking w → IsSuited w.forest → IsUnnumberedPart w.forest list part.number part.keys.items → IsPartSmall part
 part_small w list part h suited p =
-    let start : ℕ = start_at (fields_of w.forest list) in
+    let start : ℕ = list_start (fields_of w.forest list) in
     omega (
       arith,
       numbers_small w list start (children_of w.forest list) h suited refl refl,

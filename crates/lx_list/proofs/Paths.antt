@@ -28,22 +28,22 @@ use Rattle.lx_blocks.specs.Lines.{selected_lines}
 use Rattle.lx_blocks.specs.Making.{new_like}
 use Rattle.lx_blocks.specs.Ranges.{caret_at, range_of}
 use Rattle.lx_blocks.proofs.Paths.{IsWay, stays, either, chained, by_read}
-use Rattle.lx_list.specs.Making.{with_new, with_like, list_fields, item_fields, unchecked, set_changed, change_step, with_extra, numbered, checked_as, with_indent, number_item, check_item}
-use Rattle.lx_list.specs.Lines.{if_there, each_line}
+use Rattle.lx_list.specs.Making.{with_new_node, with_like, list_fields, item_fields, unchecked, set_changed, change_step, with_extra_changed, with_number, checked_as, with_indent, number_item, check_item}
+use Rattle.lx_list.specs.Lines.{step_if_there, each_line}
 use Rattle.lx_list.specs.Listing.{is_list_of, item_made, list_made, itemized, has_mark, remarked, retyped_with, retyped, retyped_above, listed, make_list_step}
 use Rattle.lx_list.specs.Dissolving.{emptied_into, paragraph_made, dissolved, outermost_above, dissolved_if, dissolved_around, remove_list_step}
 use Rattle.lx_list.specs.Nesting.{nested_in, is_nesting}
 use Rattle.lx_list.specs.Indenting.{wrapped_like, wrapped_in, taken_from, moved_between, moved_to_front, nested_by, deeper, indented, indent_step}
 use Rattle.lx_list.specs.Outdenting.{items_behind, parted_like, parted, moved_out, gone_if_empty, out_of, out_from, out_by, shallower, outdented, outdent_step}
-use Rattle.lx_list.specs.Ending.{rest_parted, paragraph_behind_like, paragraph_behind, ended_by, ended_in, paragraph_in_item_step}
+use Rattle.lx_list.specs.Ending.{rest_parted, paragraph_behind_like, paragraph_behind, list_ended_by, ended_in, paragraph_in_item_step}
 use Rattle.lx_list.specs.Checking.{item_fault, set_checked_step, is_checked, toggled, toggle_checked_step}
-use Rattle.lx_list.specs.Numbering.{start_at, numbered_from, list_numbered, number_step}
+use Rattle.lx_list.specs.Numbering.{list_start, numbered_from, list_numbered, number_step}
 
 module _ {D : Working → Type 0} {R : Working → Working → Type 0} (way : IsWay D R) where
   -- ---- new nodes, fields, and places
 
   with_new_path : (kind : Kind) (fields : Fields) (next : ℕ → Working → Result Working Cause) → ((k : ℕ) → Leads D R (next k))
-      → Leads D R (with_new kind fields next)
+      → Leads D R (with_new_node kind fields next)
   with_new_path kind fields next leads = chained way (new_step kind fields) (λ w. next w.next_key) (way.new kind fields) (λ w. leads w.next_key)
 
   new_like_path : (l : Option Label) → Leads D R (new_like l)
@@ -62,11 +62,11 @@ module _ {D : Working → Type 0} {R : Working → Working → Type 0} (way : Is
 
   number_item_path : (n k : ℕ) → Leads D R (number_item n k)
   unfolding number_item
-  number_item_path n k = change_path (with_extra (numbered n)) k
+  number_item_path n k = change_path (with_extra_changed (with_number n)) k
 
   check_item_path : (check : Option Bool) (k : ℕ) → Leads D R (check_item check k)
   unfolding check_item
-  check_item_path check k = change_path (with_extra (checked_as check)) k
+  check_item_path check k = change_path (with_extra_changed (checked_as check)) k
 
   before : (k other : ℕ) → Leads D R (put_before_step k other)
   before k other = put_before_path way k other tt
@@ -91,14 +91,14 @@ module _ {D : Working → Type 0} {R : Working → Working → Type 0} (way : Is
   removes k = remove_path way k
 
   -- a step for each selected line
-  if_there_path : (step : ℕ → Working → Result Working Cause) → ((k : ℕ) → Leads D R (step k)) → (k : ℕ) → Leads D R (if_there step k)
+  if_there_path : (step : ℕ → Working → Result Working Cause) → ((k : ℕ) → Leads D R (step k)) → (k : ℕ) → Leads D R (step_if_there step k)
   if_there_path step leads k w v r e = if_ way (is_attached w.forest k) (step k) w v r (leads k) e
 
   pub each_line_path : (step : ℕ → Working → Result Working Cause) → ((k : ℕ) → Leads D R (step k)) → Leads D R (each_line step)
   unfolding each_line
   each_line_path step leads w v r e =
-      by_read way w v (range_of w) (λ range u. in_turn (if_there step) (selected_lines w.forest range) u)
-      (λ range f. every way (if_there step) (selected_lines w.forest range) (if_there_path step leads) w v r f) e
+      by_read way w v (range_of w) (λ range u. in_turn (step_if_there step) (selected_lines w.forest range) u)
+      (λ range f. every way (step_if_there step) (selected_lines w.forest range) (if_there_path step leads) w v r f) e
 
   -- ---- lists
 
@@ -328,7 +328,7 @@ module _ {D : Working → Type 0} {R : Working → Working → Type 0} (way : Is
   unfolding paragraph_behind
   paragraph_behind_path x list w v r e = paragraph_behind_like_path x list (items_behind w.forest list x) (label_of w.forest list) w v r e
 
-  ended_by_path : (x list : ℕ) (o : Option ℕ) → Leads D R (ended_by x list o)
+  ended_by_path : (x list : ℕ) (o : Option ℕ) → Leads D R (list_ended_by x list o)
   ended_by_path x list None w v r e = stays way w v r e
   ended_by_path x list (Some above) w v r e =
       either way (is_at is_item w.forest above) (out_of x list above) (paragraph_behind x list) (out_of_path x list above) (paragraph_behind_path x list) w v r
@@ -367,7 +367,7 @@ module _ {D : Working → Type 0} {R : Working → Working → Type 0} (way : Is
       chained way (number_item n item) (λ u. numbered_from more items) (number_item_path n item) (λ u. numbered_from_path more items) w v r e
 
   list_numbered_path : (list : ℕ) → Leads D R (list_numbered list)
-  list_numbered_path list w v r e = numbered_from_path (start_at (fields_of w.forest list)) (children_of w.forest list) w v r e
+  list_numbered_path list w v r e = numbered_from_path (list_start (fields_of w.forest list)) (children_of w.forest list) w v r e
 
   pub number_path : Leads D R number_step
   unfolding number_step

@@ -5,13 +5,13 @@ use Rattle.lx_forest.specs.Lookups.{IsForest, IsHeld}
 use Rattle.lx_forest.specs.Suited.{IsSuited}
 use Rattle.lx_draft.specs.Working.{Working}
 use Rattle.lx_list.specs.Numbering.{number_step}
-use Rattle.lx_list.specs.Numbered.{IsNumbered}
+use Rattle.lx_list.specs.Numbered.{AreListsNumbered}
 use Rattle.lx_list.specs.Laws.{IsRenumbered}
 use Rattle.lx_list.proofs.Alike.{IsAlike, view-alike, simple-alike, next-alike}
 use Rattle.lx_list.proofs.Numbered.{numbered-number}
 use Rattle.lx_list.proofs.Kept.{HasItems-held}
 
-renumbered_by : (w v : Working) → IsNumbered v.forest → IsAlike w.forest v.forest → IsRenumbered w.forest v.forest
+renumbered_by : (w v : Working) → AreListsNumbered v.forest → IsAlike w.forest v.forest → IsRenumbered w.forest v.forest
 renumbered_by w v numbered alike = record {
   numbered = numbered;
   views = view-alike w.forest v.forest alike;

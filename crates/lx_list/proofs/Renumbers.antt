@@ -9,15 +9,15 @@ use Rattle.lx_blocks.specs.Blocks.{is_at}
 use Rattle.lx_caret.specs.Lying.{IsLying}
 use Rattle.lx_caret.proofs.Fit.{after_tells, Fit}
 use Rattle.lx_list.specs.Nesting.{is_nesting}
-use Rattle.lx_list.specs.Making.{with_extra, numbered, number_item}
-use Rattle.lx_list.specs.Numbering.{start_at, numbered_from, list_numbered, number_step}
-use Rattle.lx_list.specs.Laws.{KeepsLying}
+use Rattle.lx_list.specs.Making.{with_extra_changed, with_number, number_item}
+use Rattle.lx_list.specs.Numbering.{list_start, numbered_from, list_numbered, number_step}
+use Rattle.lx_list.specs.Laws.{KeepsLyingInTree}
 use Rattle.lx_list.proofs.Linewise.{each_fits}
 use Rattle.lx_list.proofs.Written.{stays_change}
 
 number_fits : (n item : ℕ) (w v : Working) → Fit w → number_item n item w ≡ Ok v → Fit v
 unfolding number_item
-number_fits n item w v fit e = (stays_change (with_extra (numbered n)) item w v fit e).fit
+number_fits n item w v fit e = (stays_change (with_extra_changed (with_number n)) item w v fit e).fit
 
 numbered_fits : (n : ℕ) (items : List ℕ) (w v : Working) → Fit w → numbered_from n items w ≡ Ok v → Fit v
 unfolding numbered_from
@@ -28,9 +28,9 @@ numbered_fits n (item ∷ items) w v fit e =
     numbered_fits next items first.0 v (number_fits n item w first.0 fit first.1.0) first.1.1
 
 list_fits : (list : ℕ) (w v : Working) → Fit w → list_numbered list w ≡ Ok v → Fit v
-list_fits list w v fit e = numbered_fits (start_at (fields_of w.forest list)) (children_of w.forest list) w v fit e
+list_fits list w v fit e = numbered_fits (list_start (fields_of w.forest list)) (children_of w.forest list) w v fit e
 
-pub lies-number : KeepsLying number_step
+pub lies-number : KeepsLyingInTree number_step
 unfolding number_step
 lies-number w v ready held short lying e =
     (each_fits list_numbered list_fits (filter (is_at is_list w.forest) (preorder w.forest)) w v

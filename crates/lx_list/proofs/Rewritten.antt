@@ -23,7 +23,7 @@ use Rattle.lx_blocks.specs.Blocks.{is_at}
 use Rattle.lx_list.specs.Numbering.{list_numbered, number_step}
 use Rattle.lx_list.specs.Began.{BeganNumbered}
 use Rattle.lx_list.specs.declared.parts.Part.{Part}
-use Rattle.lx_list.specs.Parts.{IsPart, AreParts, part_numbered, items_of}
+use Rattle.lx_list.specs.Parts.{IsUnnumberedPart, AreParts, part_numbered, items_of}
 use Rattle.lx_list.specs.Parts as partly
 use Rattle.lx_list.specs.Touched.{is_touched_list, touched_lists, items_below, characters_below}
 use Rattle.lx_list.proofs.Numbered.{passes_filter}
@@ -107,9 +107,9 @@ parts_within g f (list ∷ lists) [] are = absurd (are)
 
 -- one more list with its part
 pub one_more : (f : Forest) (lists : List ℕ) (parts : List Part) (i list : ℕ) (part : Part) → i < length lists → list ≡ slice_index_or lists i list
-    → AreParts f (take i lists) parts → IsPart f list part.number part.keys.items → AreParts f (take (suc i) lists) (parts ++ part ∷ [])
+    → AreParts f (take i lists) parts → IsUnnumberedPart f list part.number part.keys.items → AreParts f (take (suc i) lists) (parts ++ part ∷ [])
 one_more f [] parts i list part few at are is = absurd (omega (arith, few))
-one_more f (l ∷ lists) [] zero list part few at are is = (subst (λ k. IsPart f k part.number part.keys.items) at is, tt)
+one_more f (l ∷ lists) [] zero list part few at are is = (subst (λ k. IsUnnumberedPart f k part.number part.keys.items) at is, tt)
 one_more f (l ∷ lists) (p ∷ parts) zero list part few at are is = absurd (are)
 one_more f (l ∷ lists) [] (suc i) list part few at are is = absurd (are)
 one_more f (l ∷ lists) (p ∷ parts) (suc i) list part few at are is = (are.0, one_more f lists parts i list part (omega (arith, few)) at are.1 is)
@@ -132,7 +132,7 @@ pub record WasRead (w : Working) (parts : List Part) (i c li lc oi oc : ℕ) : T
   pub loose_items : li ≡ weight items_in (without 0 w.forest)
   pub loose_characters : lc ≡ capped (weight item_characters_in (without 0 w.forest))
   pub own_items : oi ≡ sum_by (items_of w.forest) parts
-  pub own_characters : oc ≡ sum_by (partly.characters_of w.forest) parts
+  pub own_characters : oc ≡ sum_by (partly.part_characters w.forest) parts
   pub few : w.counted + i ≤ most_counts
   pub small : w.written + c ≤ most_written
 
@@ -148,7 +148,7 @@ abbrev pub items_left : Working → List Part → ℕ
 items_left w parts = rest_of w (items_below w.forest) (items_of w.forest) parts
 
 abbrev pub characters_left : Working → List Part → ℕ
-characters_left w parts = rest_of w (characters_below w.forest) (partly.characters_of w.forest) parts
+characters_left w parts = rest_of w (characters_below w.forest) (partly.part_characters w.forest) parts
 
 pub the_rest : (w : Working) (parts : List Part) (i c li lc oi oc : ℕ) → IsForest w.forest → IsHeld may_hold w.forest → WasRead w parts i c li lc oi oc
     → IsTheRest w i c li lc oi oc (items_left w parts) (characters_left w parts)

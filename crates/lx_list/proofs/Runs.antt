@@ -20,9 +20,9 @@ use Rattle.lx_draft.specs.Working.{Working}
 use Rattle.lx_blocks.specs.Blocks.{passes, is_at}
 use Rattle.lx_list.specs.Began.{BeganNumbered}
 use Rattle.lx_list.specs.Nesting.{is_nesting}
-use Rattle.lx_list.specs.Numbering.{start_at}
-use Rattle.lx_list.specs.Numbered.{number_at, due, IsNumberedList}
-use Rattle.lx_list.specs.Parts.{AreUntouched, IsWindow, number_behind, HaveNumbers, is_end, UntouchedBehind, AreLeft, IsBehind, IsBeginning, IsPart}
+use Rattle.lx_list.specs.Numbering.{list_start}
+use Rattle.lx_list.specs.Numbered.{item_number, due, IsNumberedList}
+use Rattle.lx_list.specs.Parts.{AreUntouched, IsMarkedWindow, number_behind, HaveNumbers, is_end, UntouchedBehind, AreLeft, IsBehind, IsBeginning, IsUnnumberedPart}
 use Rattle.lx_list.proofs.Itemless.{spot_known}
 use Rattle.lx_list.proofs.Numbered.{parent_there, at-append, next_due}
 use Rattle.lx_list.proofs.Stands.{fields_in, kind_kept, nesting_kept}
@@ -85,8 +85,8 @@ count-next p (y ∷ xs) (suc i) x at =
 due_next : (f : Forest) (list i x : ℕ) → slice_get (children_of f list) i ≡ Some x
     → due f list (suc i) ≡ cond (is_nesting f x) (due f list i) (due f list i + 1)
 due_next f list i x at =
-    ap (λ n. start_at (fields_of f list) + n) (count-next (λ q. not (is_nesting f q)) (children_of f list) i x at)
-    ∙ by_nesting (is_nesting f x) (start_at (fields_of f list)) (count_by (λ q. not (is_nesting f q)) (take i (children_of f list)))
+    ap (λ n. list_start (fields_of f list) + n) (count-next (λ q. not (is_nesting f q)) (children_of f list) i x at)
+    ∙ by_nesting (is_nesting f x) (list_start (fields_of f list)) (count_by (λ q. not (is_nesting f q)) (take i (children_of f list)))
   where
     by_nesting : (b : Bool) (n m : ℕ) → n + (m + cond (not b) 1 0) ≡ cond b (n + m) (n + m + 1)
     by_nesting true n m = omega arith
@@ -94,8 +94,8 @@ due_next f list i x at =
 
 -- what is right behind an item came right behind it before
 steps_on : (w : Working) (b : BeganNumbered w) (list x y n : ℕ) → is_at is_list w.forest list ≡ true → parent_of w.forest x ≡ Some list
-    → next_of w.forest x ≡ Some y → is_touched w.marks x ≡ false → is_touched w.marks y ≡ false → number_at (fields_of w.forest x) ≡ Some n
-    → number_at (fields_of w.forest y) ≡ Some (cond (is_nesting w.forest x) n (n + 1))
+    → next_of w.forest x ≡ Some y → is_touched w.marks x ≡ false → is_touched w.marks y ≡ false → item_number (fields_of w.forest x) ≡ Some n
+    → item_number (fields_of w.forest y) ≡ Some (cond (is_nesting w.forest x) n (n + 1))
 steps_on w b list x y n is up_now next_now free also_free has_n =
     let f : Forest = b.before in
     let kids : List ℕ = children_of f list in
@@ -113,8 +113,8 @@ steps_on w b list x y n is up_now next_now free also_free has_n =
     let i : ℕ = place_in kids x in
     let at : slice_get kids i ≡ Some x = slice_get-place_in kids x among in
     let behind : slice_get kids (suc i) ≡ Some y = sym (next_in-slice_get kids x i (NoRepeats-children_of f list b.in_order) at) ∙ beside in
-    let n_is : due f list i ≡ n = same_Some (due f list i) n (sym (numbered i x at) ∙ sym (ap (λ o. number_at (fields_in o)) first.0) ∙ has_n) in
-    ap (λ o. number_at (fields_in o)) second.0 ∙ numbered (suc i) y behind ∙ ap Some (due_next f list i x at)
+    let n_is : due f list i ≡ n = same_Some (due f list i) n (sym (numbered i x at) ∙ sym (ap (λ o. item_number (fields_in o)) first.0) ∙ has_n) in
+    ap (λ o. item_number (fields_in o)) second.0 ∙ numbered (suc i) y behind ∙ ap Some (due_next f list i x at)
     ∙ ap (λ m. Some (cond (is_nesting f x) m (m + 1))) n_is ∙ ap (λ t. Some (cond t n (n + 1))) (sym (nesting_kept w b x first.0))
 
 -- ---- a run
@@ -125,7 +125,7 @@ first-append (x ∷ xs) ys q e = e
 
 pub run_numbered : (w : Working) → BeganNumbered w → IsForest w.forest → (list : ℕ) → is_at is_list w.forest list ≡ true → (xs zs more : List ℕ) (n : ℕ)
     → children_of w.forest list ≡ xs ++ (zs ++ more) → AreUntouched w.marks zs
-    → ((q : ℕ) → first_of zs ≡ Some q → number_at (fields_of w.forest q) ≡ Some n) → HaveNumbers w.forest n zs
+    → ((q : ℕ) → first_of zs ≡ Some q → item_number (fields_of w.forest q) ≡ Some n) → HaveNumbers w.forest n zs
 run_numbered w b h list is xs [] more n all free first = tt
 run_numbered w b h list is xs (x ∷ zs) more n all free first =
     let next : ℕ = cond (is_nesting w.forest x) n (n + 1) in
@@ -148,7 +148,7 @@ behind-first f n x xs =
     by_nesting true m = omega arith
     by_nesting false m = omega arith
 
-last_has : (f : Forest) (n : ℕ) (xs : List ℕ) (x : ℕ) → HaveNumbers f n (xs ++ x ∷ []) → number_at (fields_of f x) ≡ Some (number_behind f n xs)
+last_has : (f : Forest) (n : ℕ) (xs : List ℕ) (x : ℕ) → HaveNumbers f n (xs ++ x ∷ []) → item_number (fields_of f x) ≡ Some (number_behind f n xs)
 last_has f n [] x have = have.0 ∙ ap Some (omega arith)
 last_has f n (y ∷ xs) x have = last_has f (cond (is_nesting f y) n (n + 1)) xs x have.1 ∙ ap Some (behind-first f n y xs)
 
@@ -162,7 +162,7 @@ behind_last f n next xs x have behind =
 
 -- at the first item of all
 begin_first : (w : Working) (list : ℕ) (window : Option (ℕ × ℕ)) → AreLeft w.marks window (is_none window) (children_of w.forest list)
-    → IsBeginning w list window (first_child w.forest list) (start_at (fields_of w.forest list))
+    → IsBeginning w list window (first_child w.forest list) (list_start (fields_of w.forest list))
 begin_first w list window left = record {
   front = [];
   left = children_of w.forest list;
@@ -174,7 +174,7 @@ begin_first w list window left = record {
 }
 
 pub begin_untouched : (w : Working) (list : ℕ) → AreUntouched w.marks (children_of w.forest list)
-    → IsBeginning w list None (first_child w.forest list) (start_at (fields_of w.forest list))
+    → IsBeginning w list None (first_child w.forest list) (list_start (fields_of w.forest list))
 begin_untouched w list free = begin_first w list None free
 
 last_among : (k : ℕ) (xs : List ℕ) → last_of xs ≡ Some k → is_among k xs ≡ true
@@ -211,7 +211,7 @@ behind_end m ends (x ∷ y ∷ xs) ys once last free =
         absurd (cc)
 
 -- a window's last comes behind its first, also with what is before it
-window_left : (w : Working) (list : ℕ) (ends : ℕ × ℕ) (win : IsWindow w.forest w.marks list ends.0 ends.1) → IsForest w.forest
+window_left : (w : Working) (list : ℕ) (ends : ℕ × ℕ) (win : IsMarkedWindow w.forest w.marks list ends.0 ends.1) → IsForest w.forest
     → UntouchedBehind w.marks (Some ends) (win.within ++ win.behind) × UntouchedBehind w.marks (Some ends) (children_of w.forest list)
 window_left w list ends win h =
     let once : NoRepeats ((win.front ++ win.within) ++ win.behind) = subst NoRepeats win.children (NoRepeats-children_of w.forest list h) in
@@ -225,8 +225,8 @@ window_left w list ends win h =
     last_there [] e = absurd (grind arith)
     last_there (x ∷ xs) e = last-append None win.front x xs ∙ e
 
-pub begin_all : (w : Working) (list : ℕ) (ends : ℕ × ℕ) → IsWindow w.forest w.marks list ends.0 ends.1 → IsForest w.forest
-    → IsBeginning w list (Some ends) (first_child w.forest list) (start_at (fields_of w.forest list))
+pub begin_all : (w : Working) (list : ℕ) (ends : ℕ × ℕ) → IsMarkedWindow w.forest w.marks list ends.0 ends.1 → IsForest w.forest
+    → IsBeginning w list (Some ends) (first_child w.forest list) (list_start (fields_of w.forest list))
 begin_all w list ends win h = begin_first w list (Some ends) (window_left w list ends win h).1
 
 -- at the first of the window, where the first of all has its number
@@ -235,8 +235,8 @@ from_end x [] = ([], x, refl)
 from_end x (z ∷ xs) = let rest = from_end z xs in (x ∷ rest.0, rest.1, ap (λ ks. x ∷ ks) rest.2)
 
 pub begin_within : (w : Working) → BeganNumbered w → (list : ℕ) (ends : ℕ × ℕ) (before number : ℕ) → IsForest w.forest → is_at is_list w.forest list ≡ true
-    → IsWindow w.forest w.marks list ends.0 ends.1 → previous_of w.forest ends.0 ≡ Some before
-    → ((q : ℕ) → first_child w.forest list ≡ Some q → number_at (fields_of w.forest q) ≡ Some (start_at (fields_of w.forest list)))
+    → IsMarkedWindow w.forest w.marks list ends.0 ends.1 → previous_of w.forest ends.0 ≡ Some before
+    → ((q : ℕ) → first_child w.forest list ≡ Some q → item_number (fields_of w.forest q) ≡ Some (list_start (fields_of w.forest list)))
     → IsBehind w.forest before number → IsBeginning w list (Some ends) (Some ends.0) number
 begin_within w b list ends before number h is win previous first behind =
     by_parts win.front win.within (win.children ∙ append_assoc win.front win.within win.behind)
@@ -252,8 +252,8 @@ begin_within w b list ends before number h is win previous first behind =
         absurd (cc)
     by_parts (x ∷ xs) (y ∷ ys) all leads free left =
         let same : y ≡ ends.0 = same_Some y ends.0 leads in
-        let have : HaveNumbers w.forest (start_at (fields_of w.forest list)) (x ∷ xs) =
-        run_numbered w b h list is [] (x ∷ xs) ((y ∷ ys) ++ win.behind) (start_at (fields_of w.forest list)) all free
+        let have : HaveNumbers w.forest (list_start (fields_of w.forest list)) (x ∷ xs) =
+        run_numbered w b h list is [] (x ∷ xs) ((y ∷ ys) ++ win.behind) (list_start (fields_of w.forest list)) all free
         (λ q e. first q (ap first_of all ∙ e)) in
         let cut = from_end x xs in
         let last_all : children_of w.forest list ≡ cut.0 ++ cut.1 ∷ y ∷ (ys ++ win.behind) =
@@ -266,20 +266,20 @@ begin_within w b list ends before number h is win previous first behind =
           left = (y ∷ ys) ++ win.behind;
           children = all;
           from_is = ap Some (sym same);
-          number_is = behind_last w.forest (start_at (fields_of w.forest list)) number cut.0 cut.1
-              (subst (HaveNumbers w.forest (start_at (fields_of w.forest list))) cut.2 have)
+          number_is = behind_last w.forest (list_start (fields_of w.forest list)) number cut.0 cut.1
+              (subst (HaveNumbers w.forest (list_start (fields_of w.forest list))) cut.2 have)
               (subst (λ k. IsBehind w.forest k number) (sym before_is) behind)
-              ∙ ap (number_behind w.forest (start_at (fields_of w.forest list))) (sym cut.2);
+              ∙ ap (number_behind w.forest (list_start (fields_of w.forest list))) (sym cut.2);
           front_numbered = have;
           ends = left;
         }
 
 -- with what is known of a window
 pub begins_within : (w : Working) → BeganNumbered w → (list : ℕ) (window : Option (ℕ × ℕ)) (first before number : ℕ) → IsForest w.forest
-    → is_at is_list w.forest list ≡ true → IfSome window (λ ends. IsWindow w.forest w.marks list ends.0 ends.1)
+    → is_at is_list w.forest list ≡ true → IfSome window (λ ends. IsMarkedWindow w.forest w.marks list ends.0 ends.1)
     → option_map (λ (e : ℕ × ℕ). e.0) window ≡ Some first
     → previous_of w.forest first ≡ Some before
-    → ((q : ℕ) → first_child w.forest list ≡ Some q → number_at (fields_of w.forest q) ≡ Some (start_at (fields_of w.forest list)))
+    → ((q : ℕ) → first_child w.forest list ≡ Some q → item_number (fields_of w.forest q) ≡ Some (list_start (fields_of w.forest list)))
     → IsBehind w.forest before number → IsBeginning w list window (Some first) number
 begins_within w b list None first before number h is some win previous starts behind = absurd (cc)
 begins_within w b list (Some ends) first before number h is some win previous starts behind =
@@ -289,8 +289,8 @@ begins_within w b list (Some ends) first before number h is some win previous st
 
 -- whatever the window is
 pub begins_first : (w : Working) (list : ℕ) (window : Option (ℕ × ℕ)) (from : Option ℕ) (number : ℕ) → IsForest w.forest
-    → IfSome window (λ ends. IsWindow w.forest w.marks list ends.0 ends.1) → IfNone window (AreUntouched w.marks (children_of w.forest list))
-    → from ≡ first_child w.forest list → number ≡ start_at (fields_of w.forest list) → IsBeginning w list window from number
+    → IfSome window (λ ends. IsMarkedWindow w.forest w.marks list ends.0 ends.1) → IfNone window (AreUntouched w.marks (children_of w.forest list))
+    → from ≡ first_child w.forest list → number ≡ list_start (fields_of w.forest list) → IsBeginning w list window from number
 begins_first w list None from number h some none from_is number_is =
     subst (λ o. IsBeginning w list None o number) (sym from_is) (subst (IsBeginning w list None (first_child w.forest list)) (sym number_is)
     (begin_untouched w list none))
@@ -306,8 +306,8 @@ pub record IsGathering (w : Working) (list : ℕ) (window : Option (ℕ × ℕ))
   pub left : List ℕ
   pub children : children_of w.forest list ≡ front ++ (keys ++ left)
   pub at_is : at ≡ first_of left
-  pub number_is : number ≡ number_behind w.forest (start_at (fields_of w.forest list)) front
-  pub front_numbered : HaveNumbers w.forest (start_at (fields_of w.forest list)) front
+  pub number_is : number ≡ number_behind w.forest (list_start (fields_of w.forest list)) front
+  pub front_numbered : HaveNumbers w.forest (list_start (fields_of w.forest list)) front
   pub due_is : now ≡ number_behind w.forest number keys
   pub ends : AreLeft w.marks window is_past left
 
@@ -372,7 +372,7 @@ gathered_fewer w list window number keys now is_past at item g here =
 
 -- the items behind have their numbers where none is left, and where the first of them has its number behind a window
 pub gathered_all : (w : Working) (list : ℕ) (window : Option (ℕ × ℕ)) (number : ℕ) (keys : List ℕ) (now : ℕ) (is_past : Bool)
-    → IsGathering w list window number keys now is_past None → IsPart w.forest list number keys
+    → IsGathering w list window number keys now is_past None → IsUnnumberedPart w.forest list number keys
 gathered_all w list window number keys now is_past g = record {
   front = g.front;
   behind = g.left;
@@ -387,7 +387,7 @@ gathered_all w list window number keys now is_past g = record {
 
 pub gathered_part : (w : Working) → BeganNumbered w → (list : ℕ) (window : Option (ℕ × ℕ)) (number : ℕ) (keys : List ℕ) (now : ℕ) (is_past : Bool)
     (at : Option ℕ) (item : ℕ) → IsForest w.forest → is_at is_list w.forest list ≡ true → IsGathering w list window number keys now is_past at
-    → is_past ≡ true → at ≡ Some item → number_at (fields_of w.forest item) ≡ Some now → IsPart w.forest list number keys
+    → is_past ≡ true → at ≡ Some item → item_number (fields_of w.forest item) ≡ Some now → IsUnnumberedPart w.forest list number keys
 gathered_part w b list window number keys now is_past at item h is g past here has = record {
   front = g.front;
   behind = g.left;
@@ -398,5 +398,5 @@ gathered_part w b list window number keys now is_past at item h is g past here h
       run_numbered w b h list is (g.front ++ keys) g.left [] (number_behind w.forest number keys)
       (g.children ∙ sym (append_assoc g.front keys g.left) ∙ ap (λ ks. (g.front ++ keys) ++ ks) (sym (append-nil g.left)))
       (subst (λ t. AreLeft w.marks window t g.left) past g.ends)
-      (λ q e. ap (λ k. number_at (fields_of w.forest k)) (same_Some q item (sym e ∙ sym g.at_is ∙ here)) ∙ has ∙ ap Some g.due_is);
+      (λ q e. ap (λ k. item_number (fields_of w.forest k)) (same_Some q item (sym e ∙ sym g.at_is ∙ here)) ∙ has ∙ ap Some g.due_is);
 }

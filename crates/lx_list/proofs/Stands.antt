@@ -18,8 +18,8 @@ use Rattle.lx_forest.proofs.Lookups.{has-child}
 use Rattle.lx_draft.specs.Working.{Working}
 use Rattle.lx_blocks.specs.Blocks.{passes, is_at}
 use Rattle.lx_list.specs.Nesting.{if_list, is_nesting}
-use Rattle.lx_list.specs.Numbering.{start_at}
-use Rattle.lx_list.specs.Numbered.{number_at, IsNumberedList}
+use Rattle.lx_list.specs.Numbering.{list_start}
+use Rattle.lx_list.specs.Numbered.{item_number, IsNumberedList}
 use Rattle.lx_list.specs.Began.{BeganNumbered}
 use Rattle.lx_list.specs.Touched.{is_of_list, is_touched_list}
 use Rattle.lx_list.proofs.Numbered.{parent_there}
@@ -98,9 +98,9 @@ nesting_kept w b q same =
 list_unchanged : (w : Working) (b : BeganNumbered w) (list : ℕ) → IsForest w.forest → is_touched_list w.forest w.marks list ≡ false
     → IsUnchanged b.before w.forest list
 list_unchanged w b list h none = record {
-  start = ap (λ s. start_at (fields_in s)) (list_kept w b list none);
+  start = ap (λ s. list_start (fields_in s)) (list_kept w b list none);
   children = ap children_at (list_kept w b list none);
-  numbers = λ q among. ap (λ s. number_at (fields_in s)) (child_kept w b list q h none among);
+  numbers = λ q among. ap (λ s. item_number (fields_in s)) (child_kept w b list q h none among);
   nesting = λ q among. nesting_kept w b q (child_kept w b list q h none among);
 }
 

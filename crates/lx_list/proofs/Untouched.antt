@@ -37,9 +37,9 @@ use Rattle.lx_draft.proofs.Covered.{answered}
 use Rattle.lx_draft.proofs.Rewritten.{rewritten-none, rewritten-more}
 use Rattle.lx_edit.specs.InTurn.{in_turn}
 use Rattle.lx_blocks.specs.Blocks.{passes, is_at}
-use Rattle.lx_list.specs.Making.{changed, numbered, with_extra, set_changed, change_step, number_item}
+use Rattle.lx_list.specs.Making.{element_fields_changed, with_number, with_extra_changed, set_changed, change_step, number_item}
 use Rattle.lx_list.specs.Nesting.{is_nesting}
-use Rattle.lx_list.specs.Numbering.{start_at, numbered_from, list_numbered}
+use Rattle.lx_list.specs.Numbering.{list_start, numbered_from, list_numbered}
 use Rattle.lx_list.specs.Numbered.{IsNumberedList}
 use Rattle.lx_list.specs.Touched.{items_below, characters_below}
 use Rattle.lx_list.proofs.Alike.{seen_label, seen_spot, IsAlike, alike-self, alike-then, alike-set, changed-seen, parent-alike, children-alike, kind-alike}
@@ -268,7 +268,7 @@ item_known f k is_it =
 
 -- what an item gets
 abbrev given_number : ℕ → Label → Fields
-given_number n l = changed (with_extra (numbered n)) l.fields
+given_number n l = element_fields_changed (with_extra_changed (with_number n)) l.fields
 
 characters-given : (n : ℕ) (l : Label) → characters_of (given_number n l) ≡ characters_of l.fields
 characters-given n l =
@@ -276,7 +276,7 @@ characters-given n l =
 
 number_set : (n k : ℕ) (l : Label) (w : Working) → label_of w.forest k ≡ Some l → number_item n k w ≡ set_step k (given_number n l) w
 unfolding number_item change_step
-number_set n k l w is = ap (λ x. set_changed (with_extra (numbered n)) k (option_map (λ (m : Label). m.fields) x) w) is
+number_set n k l w is = ap (λ x. set_changed (with_extra_changed (with_number n)) k (option_map (λ (m : Label). m.fields) x) w) is
 
 item_shifted : (n k c d : ℕ) (w : Working) → is_at is_item w.forest k ≡ true → HasRoomFor (c + own_items w.forest k) (d + own_characters w.forest k) w
     → number_item n k (rewritten c d w) ≡ after (number_item n k w) (λ v. Ok (rewritten c d v))
@@ -386,25 +386,25 @@ items_there f list s is q among = item_below f list q s.held is (parent_there f 
 pub list_taken : (list : ℕ) (w v : Working) → IsSound w.forest → is_at is_list w.forest list ≡ true → list_numbered list w ≡ Ok v
     → IsTaken (items_below w.forest list) (characters_below w.forest list) w v
 list_taken list w v s is e =
-    items_taken (start_at (fields_of w.forest list)) (children_of w.forest list) w v s (items_there w.forest list s is) e
+    items_taken (list_start (fields_of w.forest list)) (children_of w.forest list) w v s (items_there w.forest list s is) e
 
 -- it does the same where other counts were taken before
 pub shifted : (c d list : ℕ) (w : Working) → IsSound w.forest → is_at is_list w.forest list ≡ true
     → HasRoomFor (c + items_below w.forest list) (d + characters_below w.forest list) w
     → list_numbered list (rewritten c d w) ≡ after (list_numbered list w) (λ v. Ok (rewritten c d v))
 shifted c d list w s is fits =
-    items_shifted c d (start_at (fields_of w.forest list)) (children_of w.forest list) w s (items_there w.forest list s is) fits
+    items_shifted c d (list_start (fields_of w.forest list)) (children_of w.forest list) w s (items_there w.forest list s is) fits
 
 -- a list whose items have their numbers stays so while another is numbered, or itself
 pub stays_right : (list other : ℕ) (w v : Working) → IsSound w.forest → is_at is_list w.forest list ≡ true → list_numbered list w ≡ Ok v
     → IsNumberedList w.forest other → IsNumberedList v.forest other
-stays_right list other w v s is e numbered i item at =
+stays_right list other w v s is e with_number i item at =
     let f : Forest = w.forest in
     let g : AreGiven f f v.forest (children_of f list) =
     list_given f list w v s.in_order (HasItems-held f s.held s.suited) is (alike-self f) e in
     let was_at : slice_get (children_of f other) i ≡ Some item = ap (λ xs. slice_get xs i) (sym (children-alike f v.forest g.alike other)) ∙ at in
     let own = due_there f other item i s.in_order was_at in
-    g.kept item (numbered i item was_at ∙ ap Some (sym own)) ∙ ap Some (own ∙ sym (due-alike f v.forest g.alike other i))
+    g.kept item (with_number i item was_at ∙ ap Some (sym own)) ∙ ap Some (own ∙ sym (due-alike f v.forest g.alike other i))
 
 -- ---- lists
 

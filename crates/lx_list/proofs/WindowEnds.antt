@@ -13,7 +13,7 @@ use Rattle.lx_forest.specs.Lookups.{parent_of, children_of, children_below, sibl
 use Rattle.lx_forest.proofs.Lookups.{is_among-children_of, NoRepeats-children_of}
 use Rattle.lx_forest.proofs.Siblings.{parent_of-next, parent_of-previous}
 use Rattle.lx_marks.specs.Marks.{Marked, flag_in, is_true_flag, is_touched}
-use Rattle.lx_list.specs.Parts.{AreUntouched, IsWindow}
+use Rattle.lx_list.specs.Parts.{AreUntouched, IsMarkedWindow}
 use Rattle.lx_list.proofs.Numbered.{parent_there}
 
 -- ---- parts of a list, by index
@@ -255,7 +255,7 @@ covers_within front within behind m first last once first_is last_is before afte
     late q there more =
         in_rest (front ++ within) behind (place_in (front ++ within ++ behind) q) q (slice_get-place_in (front ++ within ++ behind) q there) more
 
-pub covers : (f : Forest) (m : Marked) (list first last : ℕ) → IsForest f → IsWindow f m list first last → Covers (children_of f list) m first last
+pub covers : (f : Forest) (m : Marked) (list first last : ℕ) → IsForest f → IsMarkedWindow f m list first last → Covers (children_of f list) m first last
 covers f m list first last h w =
     subst (λ xs. Covers xs m first last) (sym w.children)
     (covers_within w.front w.within w.behind m first last (subst NoRepeats w.children (NoRepeats-children_of f list h)) w.first_is w.last_is w.front_untouched
@@ -264,7 +264,7 @@ covers f m list first last h w =
 untouched_by : (m : Marked) (q : ℕ) → (is_touched m q ≡ true → ⊥) → is_touched m q ≡ false
 untouched_by m q none = elim (cases_Bool (is_touched m q)) [ inl touched ↦ absurd (none touched) | inr other ↦ other ]
 
-pub window : (f : Forest) (m : Marked) (list first last : ℕ) → IsForest f → Covers (children_of f list) m first last → IsWindow f m list first last
+pub window : (f : Forest) (m : Marked) (list first last : ℕ) → IsForest f → Covers (children_of f list) m first last → IsMarkedWindow f m list first last
 window f m list first last h c =
     let xs : List ℕ = children_of f list in
     let i : ℕ = place_in xs first in
@@ -297,7 +297,7 @@ with_key key m = record m { leaves = key ∷ m.leaves }
 
 -- the window, or that there is none
 abbrev pub IsWindowOf : Forest → Marked → ℕ → Option (ℕ × ℕ) → Type 0
-IsWindowOf f m list o = MatchOption o (AreUntouched m (children_of f list)) (λ ends. IsWindow f m list ends.0 ends.1)
+IsWindowOf f m list o = MatchOption o (AreUntouched m (children_of f list)) (λ ends. IsMarkedWindow f m list ends.0 ends.1)
 
 widen : (xs : List ℕ) (m : Marked) (key a b first last : ℕ) → Covers xs m first last → is_among a xs ≡ true → is_among b xs ≡ true
     → place_in xs a ≤ place_in xs first → place_in xs last ≤ place_in xs b → place_in xs a ≤ place_in xs key → place_in xs key ≤ place_in xs b
@@ -342,7 +342,7 @@ no_child f m list key o h other = still_window f m (with_key key m) list o h (λ
 
 -- the first one that is marked itself
 pub begun : (f : Forest) (m : Marked) (list key : ℕ) → IsForest f → parent_of f key ≡ Some list → AreUntouched m (children_of f list)
-    → IsWindow f (with_key key m) list key key
+    → IsMarkedWindow f (with_key key m) list key key
 begun f m list key h up none = window f (with_key key m) list key key h (record {
   first_there = among_children f key list h up;
   last_there = among_children f key list h up;
@@ -358,7 +358,7 @@ begun f m list key h up none = window f (with_key key m) list key key h (record 
 -- ---- what is found
 
 -- the list is above both ends of a window
-up_of : (f : Forest) (m : Marked) (list first last : ℕ) → IsForest f → IsWindow f m list first last
+up_of : (f : Forest) (m : Marked) (list first last : ℕ) → IsForest f → IsMarkedWindow f m list first last
     → (parent_of f first ≡ Some list) × (parent_of f last ≡ Some list)
 up_of f m list first last h w =
     let c = covers f m list first last h w in (parent_there f list first h c.first_there, parent_there f list last h c.last_there)
@@ -368,7 +368,7 @@ pub found_between : (f : Forest) (m : Marked) (list first last key : ℕ) → Is
     → place_in (siblings f first) first ≤ place_in (siblings f first) key
     → (is_among last (siblings f first) ≡ true → place_in (siblings f first) first ≤ place_in (siblings f first) last
     → place_in (siblings f first) key ≤ place_in (siblings f first) last)
-    → IsWindow f m list first last → IsWindow f (with_key key m) list first last
+    → IsMarkedWindow f m list first last → IsMarkedWindow f (with_key key m) list first last
 found_between f m list first last key h same passed up_to w =
     let c = covers f m list first last h w in
     let is : siblings f first ≡ children_of f list = ap (children_below f) (up_of f m list first last h w).0 in
@@ -386,7 +386,7 @@ pub record IsReached (f : Forest) (first last before behind : ℕ) : Type 0 wher
   pub last_before : place_in (siblings f last) last ≤ place_in (siblings f last) behind
 
 pub found_before : (f : Forest) (m : Marked) (list first last before behind key : ℕ) → IsForest f → IsReached f first last before behind
-    → previous_of f before ≡ Some key → IsWindow f m list first last → IsWindow f (with_key key m) list key last
+    → previous_of f before ≡ Some key → IsMarkedWindow f m list first last → IsMarkedWindow f (with_key key m) list key last
 found_before f m list first last before behind key h r found w =
     let c = covers f m list first last h w in
     let is : siblings f first ≡ children_of f list = ap (children_below f) (up_of f m list first last h w).0 in
@@ -398,7 +398,7 @@ found_before f m list first last before behind key h r found w =
     (omega (arith, back, c.in_order)))
 
 pub found_behind : (f : Forest) (m : Marked) (list first last before behind key : ℕ) → IsForest f → IsReached f first last before behind
-    → next_of f behind ≡ Some key → IsWindow f m list first last → IsWindow f (with_key key m) list first key
+    → next_of f behind ≡ Some key → IsMarkedWindow f m list first last → IsMarkedWindow f (with_key key m) list first key
 found_behind f m list first last before behind key h r found w =
     let c = covers f m list first last h w in
     let is : siblings f last ≡ children_of f list = ap (children_below f) (up_of f m list first last h w).1 in
@@ -411,8 +411,8 @@ found_behind f m list first last before behind key h r found w =
 
 -- the ends of all siblings
 pub found_ends : (f : Forest) (m : Marked) (list first last before behind key : ℕ) → IsForest f → IsReached f first last before behind
-    → previous_of f before ≡ None → next_of f behind ≡ None → parent_of f key ≡ Some list → IsWindow f m list first last
-    → IsWindow f (with_key key m) list before behind
+    → previous_of f before ≡ None → next_of f behind ≡ None → parent_of f key ≡ Some list → IsMarkedWindow f m list first last
+    → IsMarkedWindow f (with_key key m) list before behind
 found_ends f m list first last before behind key h r no_more_back no_more_on up w =
     let xs : List ℕ = children_of f list in
     let c = covers f m list first last h w in

@@ -38,7 +38,7 @@ use Rattle.lx_caret.proofs.Lies.{both, is_place_in, spot_point}
 use Rattle.lx_caret.proofs.Fit.{each_still, Stays, Staying, stays_ok, stays_self, stays_set}
 use Rattle.lx_draft.proofs.Short.{fields-short}
 use Rattle.lx_caret.proofs.Short.{written-short}
-use Rattle.lx_list.specs.Making.{changed, set_changed, change_step}
+use Rattle.lx_list.specs.Making.{element_fields_changed, set_changed, change_step}
 
 -- ---- points
 
@@ -136,7 +136,7 @@ stays_fields k fields.Bare w v fit e = stays_written k fields.Bare none_bare (λ
 
 stays_set_changed : (change : ElementFields → ElementFields) (k : ℕ) (o : Option Fields) → Staying (set_changed change k o)
 stays_set_changed change k None w v fit e = stays_ok w w v (stays_self w fit) e
-stays_set_changed change k (Some x) w v fit e = stays_fields k (changed change x) w v fit e
+stays_set_changed change k (Some x) w v fit e = stays_fields k (element_fields_changed change x) w v fit e
 
 pub stays_change : (change : ElementFields → ElementFields) (k : ℕ) → Staying (change_step change k)
 unfolding change_step

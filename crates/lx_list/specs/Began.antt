@@ -6,7 +6,7 @@ use Rattle.lx_forest.specs.Forest.{Forest}
 use Rattle.lx_forest.specs.Lookups.{has, is_attached, IsForest}
 use Rattle.lx_draft.specs.Working.{Working}
 use Rattle.lx_draft.specs.Covering.{Covers, KindsStay}
-use Rattle.lx_list.specs.Numbered.{IsNumbered}
+use Rattle.lx_list.specs.Numbered.{AreListsNumbered}
 
 -- there was a forest before in which nothing was detached and each item had its number; the draft's marks cover all
 -- that changed since, and no node is of another kind
@@ -14,6 +14,6 @@ pub record BeganNumbered (w : Working) : Type 0 where
   pub before : Forest
   pub in_order : IsForest before
   pub whole : (q : ℕ) → has q before ≡ true → is_attached before q ≡ true
-  pub numbered : IsNumbered before
+  pub numbered : AreListsNumbered before
   pub marks : Covers before unmarked w.forest w.marks
   pub kinds : KindsStay before w.forest

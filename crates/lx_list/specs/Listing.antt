@@ -17,7 +17,7 @@ use Rattle.lx_edit.specs.InTurn.{in_turn}
 use Rattle.lx_edit.specs.Edits.{remove_step, children_step}
 use Rattle.lx_blocks.specs.Blocks.{is_at}
 use Rattle.lx_list.specs.Lines.{each_line}
-use Rattle.lx_list.specs.Making.{check_at, with_new, list_fields, item_fields, unchecked, check_item}
+use Rattle.lx_list.specs.Making.{check_at, with_new_node, list_fields, item_fields, unchecked, check_item}
 
 -- two types of lists are one
 abbrev pub same_type : ListType → ListType → Bool
@@ -36,14 +36,14 @@ is_list_of type other = false
 -- the line's children go to a new item at the list's end, and the line is removed
 unfoldable pub item_made : ListType → ℕ → ℕ → Working → Result Working Cause
 item_made type line list w =
-    with_new Item (item_fields (unchecked type)) (λ item v.
+    with_new_node Item (item_fields (unchecked type)) (λ item v.
     after (put_step item list (size_of v.forest list) v) (λ u.
     after (children_step line item u) (remove_step line))) w
 
 -- the line becomes the item of a new list before it
 unfoldable pub list_made : ListType → ℕ → Working → Result Working Cause
 list_made type line w =
-    with_new (ListKind type) list_fields (λ list v. after (put_before_step list line v) (item_made type line list)) w
+    with_new_node (ListKind type) list_fields (λ list v. after (put_before_step list line v) (item_made type line list)) w
 
 -- the line goes into the list before it, where that is of the type, and else into a new one
 abbrev pub itemized : ListType → ℕ → Option ℕ → Working → Result Working Cause
@@ -66,7 +66,7 @@ remarked type item w = check_item None item w
 abbrev pub retyped_with : ListType → ℕ → Option Fields → Working → Result Working Cause
 retyped_with type list None w = Ok w
 retyped_with type list (Some fields) w =
-    with_new (ListKind type) fields (λ new v.
+    with_new_node (ListKind type) fields (λ new v.
     after (put_before_step new list v) (λ put.
     after (children_step list new put) (λ moved.
     after (remove_step list moved) (λ left. in_turn (remarked type) (children_of left.forest new) left)))) w

@@ -20,8 +20,8 @@ use Rattle.lx_blocks.specs.Making.{new_like}
 -- ---- new nodes
 
 -- a new node, and then a step with its key
-abbrev pub with_new : Kind → Fields → (ℕ → Working → Result Working Cause) → Working → Result Working Cause
-with_new kind fields next w = after (new_step kind fields w) (next w.next_key)
+abbrev pub with_new_node : Kind → Fields → (ℕ → Working → Result Working Cause) → Working → Result Working Cause
+with_new_node kind fields next w = after (new_step kind fields w) (next w.next_key)
 
 -- a new node like another, and then a step with its key
 abbrev pub with_like : Option Label → (ℕ → Working → Result Working Cause) → Working → Result Working Cause
@@ -55,22 +55,22 @@ check_at other = None
 -- ---- fields changed
 
 -- fields changed, if they are an element's
-abbrev pub changed : (ElementFields → ElementFields) → Fields → Fields
-changed change (fields.Element element) = fields.Element (change element)
-changed change other = other
+abbrev pub element_fields_changed : (ElementFields → ElementFields) → Fields → Fields
+element_fields_changed change (fields.Element element) = fields.Element (change element)
+element_fields_changed change other = other
 
 -- an element with its indent changed
 abbrev pub with_indent : (ℕ → ℕ) → ElementFields → ElementFields
 with_indent change e = record e { indent = change e.indent }
 
 -- an element with what it has of its own kind changed
-abbrev pub with_extra : (Extra → Extra) → ElementFields → ElementFields
-with_extra change e = record e { extra = change e.extra }
+abbrev pub with_extra_changed : (Extra → Extra) → ElementFields → ElementFields
+with_extra_changed change e = record e { extra = change e.extra }
 
 -- an item with this number
-abbrev pub numbered : ℕ → Extra → Extra
-numbered n (extra.Item value checked) = extra.Item n checked
-numbered n other = other
+abbrev pub with_number : ℕ → Extra → Extra
+with_number n (extra.Item value checked) = extra.Item n checked
+with_number n other = other
 
 -- an item with this check mark, or with none
 abbrev pub checked_as : Option Bool → Extra → Extra
@@ -80,7 +80,7 @@ checked_as check other = other
 -- these fields of a node set to what they become, also where that is what they were
 abbrev pub set_changed : (ElementFields → ElementFields) → ℕ → Option Fields → Working → Result Working Cause
 set_changed change k None w = Ok w
-set_changed change k (Some fields) w = set_step k (changed change fields) w
+set_changed change k (Some fields) w = set_step k (element_fields_changed change fields) w
 
 -- a node's fields set to what they become, also where that is what they were
 unfoldable pub change_step : (ElementFields → ElementFields) → ℕ → Working → Result Working Cause
@@ -88,8 +88,8 @@ change_step change k w = set_changed change k (fields_of w.forest k) w
 
 -- an item gets a number
 unfoldable pub number_item : ℕ → ℕ → Working → Result Working Cause
-number_item n = change_step (with_extra (numbered n))
+number_item n = change_step (with_extra_changed (with_number n))
 
 -- an item gets a check mark, or loses it
 unfoldable pub check_item : Option Bool → ℕ → Working → Result Working Cause
-check_item check = change_step (with_extra (checked_as check))
+check_item check = change_step (with_extra_changed (checked_as check))

@@ -14,7 +14,7 @@ use Rattle.lx_edit.specs.InTurn.{in_turn}
 use Rattle.lx_edit.specs.Edits.{moved_before, moved_behind, moved_to_end, remove_step}
 use Rattle.lx_blocks.specs.Blocks.{is_at}
 use Rattle.lx_list.specs.Lines.{each_line}
-use Rattle.lx_list.specs.Making.{with_new, with_like, item_fields, with_indent, change_step}
+use Rattle.lx_list.specs.Making.{with_new_node, with_like, item_fields, with_indent, change_step}
 
 -- the items of a list after one of them
 abbrev pub items_behind : Forest → ℕ → ℕ → List ℕ
@@ -23,7 +23,7 @@ items_behind f list x = drop (unwrap_or (index_of f x) 0 + 1) (children_of f lis
 -- a new item after the outer one, with a list like its own, takes the items after it, and it goes between the two
 abbrev pub parted_like : ℕ → List ℕ → ℕ → Option Label → Working → Result Working Cause
 parted_like x behind outer like w =
-    with_new Item (item_fields None) (λ item v.
+    with_new_node Item (item_fields None) (λ item v.
     with_like like (λ inner u.
     after (put_step inner item 0 u) (λ put.
     after (in_turn (moved_to_end inner) behind put) (λ moved.

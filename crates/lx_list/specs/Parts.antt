@@ -11,15 +11,15 @@ use Rattle.lx_links.specs.Sums.{items_in, item_characters_in}
 use Rattle.lx_draft.specs.Working.{Working}
 use Rattle.lx_list.specs.declared.parts.Part.{Part}
 use Rattle.lx_list.specs.Nesting.{is_nesting}
-use Rattle.lx_list.specs.Numbering.{start_at, numbered_from}
-use Rattle.lx_list.specs.Numbered.{number_at}
+use Rattle.lx_list.specs.Numbering.{list_start, numbered_from}
+use Rattle.lx_list.specs.Numbered.{item_number}
 
 -- none of these nodes is marked itself
 abbrev pub AreUntouched : Marked → List ℕ → Type 0
 AreUntouched m ks = (q : ℕ) → is_among q ks ≡ true → is_touched m q ≡ false
 
 -- the children of a list from the first that is marked itself up to the last
-pub record IsWindow (f : Forest) (m : Marked) (list first last : ℕ) : Type 0 where
+pub record IsMarkedWindow (f : Forest) (m : Marked) (list first last : ℕ) : Type 0 where
   pub front : List ℕ
   pub within : List ℕ
   pub behind : List ℕ
@@ -36,21 +36,21 @@ number_behind f n items = n + count_by (λ item. not (is_nesting f item)) items
 -- items have their numbers, the first of them this one
 abbrev pub HaveNumbers : Forest → ℕ → List ℕ → Type 0
 HaveNumbers f n [] = Unit {0}
-HaveNumbers f n (item ∷ items) = (number_at (fields_of f item) ≡ Some n) × HaveNumbers f (if is_nesting f item then n else n + 1) items
+HaveNumbers f n (item ∷ items) = (item_number (fields_of f item) ≡ Some n) × HaveNumbers f (if is_nesting f item then n else n + 1) items
 
 -- these items of a list, of which the first is to have this number, are all that may not have theirs
-pub record IsPart (f : Forest) (list number : ℕ) (items : List ℕ) : Type 0 where
+pub record IsUnnumberedPart (f : Forest) (list number : ℕ) (items : List ℕ) : Type 0 where
   pub front : List ℕ
   pub behind : List ℕ
   pub children : children_of f list ≡ front ++ items ++ behind
-  pub number_is : number ≡ number_behind f (start_at (fields_of f list)) front
-  pub front_numbered : HaveNumbers f (start_at (fields_of f list)) front
+  pub number_is : number ≡ number_behind f (list_start (fields_of f list)) front
+  pub front_numbered : HaveNumbers f (list_start (fields_of f list)) front
   pub behind_numbered : HaveNumbers f (number_behind f number items) behind
 
 -- each of these lists has one of these parts
 abbrev pub AreParts : Forest → List ℕ → List Part → Type 0
 AreParts f [] [] = Unit {0}
-AreParts f (list ∷ lists) (part ∷ parts) = IsPart f list part.number part.keys.items × AreParts f lists parts
+AreParts f (list ∷ lists) (part ∷ parts) = IsUnnumberedPart f list part.number part.keys.items × AreParts f lists parts
 AreParts f lists parts = ⊥
 
 -- the items of a part get their numbers
@@ -62,17 +62,17 @@ abbrev pub items_of : Forest → Part → ℕ
 items_of f part = sum_by (own_weight items_in f) part.keys.items
 
 -- how many scalar values are in their strings
-abbrev pub characters_of : Forest → Part → ℕ
-characters_of f part = sum_by (own_weight item_characters_in f) part.keys.items
+abbrev pub part_characters : Forest → Part → ℕ
+part_characters f part = sum_by (own_weight item_characters_in f) part.keys.items
 
 -- the numbers that a part may give are those of a machine
-abbrev pub IsSmall : Part → Type 0
-IsSmall part = part.number + length part.keys.items < 2 ^ 32
+abbrev pub IsPartSmall : Part → Type 0
+IsPartSmall part = part.number + length part.keys.items < 2 ^ 32
 
 -- the same of each of some parts
 abbrev pub AreSmall : List Part → Type 0
 AreSmall [] = Unit {0}
-AreSmall (part ∷ parts) = IsSmall part × AreSmall parts
+AreSmall (part ∷ parts) = IsPartSmall part × AreSmall parts
 
 -- ---- on the way along a list
 
@@ -94,7 +94,7 @@ AreLeft m window false items = UntouchedBehind m window items
 
 -- this is the number behind an item
 abbrev pub IsBehind : Forest → ℕ → ℕ → Type 0
-IsBehind f item next = (n : ℕ) × (number_at (fields_of f item) ≡ Some n) × (next ≡ if is_nesting f item then n else n + 1)
+IsBehind f item next = (n : ℕ) × (item_number (fields_of f item) ≡ Some n) × (next ≡ if is_nesting f item then n else n + 1)
 
 -- the items of a list before this one have their numbers, and it is to have this number
 pub record IsBeginning (w : Working) (list : ℕ) (window : Option (ℕ × ℕ)) (from : Option ℕ) (number : ℕ) : Type 0 where
@@ -102,6 +102,6 @@ pub record IsBeginning (w : Working) (list : ℕ) (window : Option (ℕ × ℕ))
   pub left : List ℕ
   pub children : children_of w.forest list ≡ front ++ left
   pub from_is : from ≡ first_of left
-  pub number_is : number ≡ number_behind w.forest (start_at (fields_of w.forest list)) front
-  pub front_numbered : HaveNumbers w.forest (start_at (fields_of w.forest list)) front
+  pub number_is : number ≡ number_behind w.forest (list_start (fields_of w.forest list)) front
+  pub front_numbered : HaveNumbers w.forest (list_start (fields_of w.forest list)) front
   pub ends : AreLeft w.marks window (is_none window) left

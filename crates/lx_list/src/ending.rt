@@ -61,7 +61,7 @@ fn put_paragraph(alloc: Global, draft: &mut Draft, item: Key, list: Key) -> Resu
 /// Ends a list at an item, by what the list is in.
 fn end_list(alloc: Global, draft: &mut Draft, item: Key, list: Key) -> Result<(), Fault>
     requires { blocks.is_at kinds.is_list draft.old.forest list ≡ true }
-    ensures { Does (ending.ended_by item list (lookups.parent_of draft.old.forest list) draft.old) draft.new result }
+    ensures { Does (ending.list_ended_by item list (lookups.parent_of draft.old.forest list) draft.old) draft.new result }
 {
     match draft.links().parent(list) {
         Some(above) if is_item_at(draft.links(), above) => {

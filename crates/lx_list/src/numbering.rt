@@ -41,7 +41,7 @@ pub(crate) fn following(number: u32, nests: bool) -> u32
 
 /// The number with which a list begins.
 pub(crate) fn start_of(links: &Links, list: Key) -> u32
-    ensures start { result ≡ numbering.start_at (lookups.fields_of links.now list) }
+    ensures start { result ≡ numbering.list_start (lookups.fields_of links.now list) }
     ensures sound { Sound links.now }
 {
     match links.node(list) {

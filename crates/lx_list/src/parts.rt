@@ -6,9 +6,9 @@ ghost use Rattle.lx_forest.specs.Lookups as lookups;
 ghost use Rattle.lx_forest.specs.Lookups.{IsForest, IsHeld};
 ghost use Rattle.lx_blocks.specs.Blocks as blocks;
 ghost use Rattle.lx_list.specs.Began.{BeganNumbered};
-ghost use Rattle.lx_list.specs.Numbered.{number_at};
+ghost use Rattle.lx_list.specs.Numbered.{item_number};
 ghost use Rattle.lx_list.specs.Parts as parts;
-ghost use Rattle.lx_list.specs.Parts.{AreUntouched, IsWindow, IsBehind, IsBeginning, IsPart};
+ghost use Rattle.lx_list.specs.Parts.{AreUntouched, IsMarkedWindow, IsBehind, IsBeginning, IsUnnumberedPart};
 
 use crate::changing::{has_number, number_of};
 use crate::nesting::is_nesting;
@@ -49,7 +49,7 @@ fn number_after(links: &Links, item: Key) -> Option<u32>
 
 /// Whether a list has a first item, and that has this number.
 fn starts_with(links: &Links, list: Key, number: u32) -> bool
-    ensures { IsTrue result → (q : ℕ) → lookups.first_child links.now list ≡ Some q → number_at (lookups.fields_of links.now q) ≡ Some number }
+    ensures { IsTrue result → (q : ℕ) → lookups.first_child links.now list ≡ Some q → item_number (lookups.fields_of links.now q) ≡ Some number }
 {
     match links.first(list) {
         Some(first) => has_number(links, first, number),
@@ -73,7 +73,7 @@ fn beginning(draft: &Draft, list: Key, window: Option<(Key, Key)>) -> Option<(Op
     requires since { BeganNumbered draft.now }
     requires order { IsForest draft.now.forest }
     requires is_list { blocks.is_at kinds.is_list draft.now.forest list ≡ true }
-    requires some { IfSome window (λ ends. IsWindow draft.now.forest draft.now.marks list ends.0 ends.1) }
+    requires some { IfSome window (λ ends. IsMarkedWindow draft.now.forest draft.now.marks list ends.0 ends.1) }
     requires none { IfNone window (AreUntouched draft.now.marks (lookups.children_of draft.now.forest list)) }
     ensures { IfSome result (λ begun. IsBeginning draft.now list window begun.0 begun.1) }
 {
@@ -116,9 +116,9 @@ fn part_around(
     requires since { BeganNumbered draft.now }
     requires order { IsForest draft.now.forest }
     requires is_list { blocks.is_at kinds.is_list draft.now.forest list ≡ true }
-    requires some { IfSome window (λ ends. IsWindow draft.now.forest draft.now.marks list ends.0 ends.1) }
+    requires some { IfSome window (λ ends. IsMarkedWindow draft.now.forest draft.now.marks list ends.0 ends.1) }
     requires none { IfNone window (AreUntouched draft.now.marks (lookups.children_of draft.now.forest list)) }
-    ensures { IfOk result (λ found. IfSome found (λ part. IsPart draft.now.forest list part.number part.keys.items)) }
+    ensures { IfOk result (λ found. IfSome found (λ part. IsUnnumberedPart draft.now.forest list part.number part.keys.items)) }
 {
     let Some((from, number)) = beginning(draft, list, window) else {
         return Ok(None);
@@ -150,7 +150,7 @@ pub(crate) fn part_of(alloc: Global, draft: &Draft, list: Key) -> Result<Option<
     requires order { IsForest draft.now.forest }
     requires held { IsHeld kinds.may_hold draft.now.forest }
     requires is_list { blocks.is_at kinds.is_list draft.now.forest list ≡ true }
-    ensures { IfOk result (λ found. IfSome found (λ part. IsPart draft.now.forest list part.number part.keys.items)) }
+    ensures { IfOk result (λ found. IfSome found (λ part. IsUnnumberedPart draft.now.forest list part.number part.keys.items)) }
 {
     let window = window_of(draft.links(), draft.marks(), list);
     part_around(alloc, draft, list, window)

@@ -94,7 +94,7 @@ impl Weighed {
 /// What the items of parts take. None, where it is more than an update may take.
 pub(crate) fn weigh_parts(links: &Links, parts: &[Part]) -> Option<Weighed>
     ensures items { IfSome result (λ weighed. weighed.items ≡ sum_by (weights.items_of links.now) parts.now) }
-    ensures characters { IfSome result (λ weighed. weighed.characters ≡ sum_by (weights.characters_of links.now) parts.now) }
+    ensures characters { IfSome result (λ weighed. weighed.characters ≡ sum_by (weights.part_characters links.now) parts.now) }
 {
     let mut weighed = Weighed::none();
     for part in parts {

@@ -4,7 +4,7 @@ ghost use Rattle.std.specs.Prelude.{ℕ, ◌≡◌, ◌++◌, true, [], ◌∷�
 ghost use Rattle.lx_forest.specs.Lookups as lookups;
 ghost use Rattle.lx_forest.specs.Lookups.{IsForest};
 ghost use Rattle.lx_marks.specs.Marks.{Marked};
-ghost use Rattle.lx_list.specs.Parts.{AreUntouched, IsWindow};
+ghost use Rattle.lx_list.specs.Parts.{AreUntouched, IsMarkedWindow};
 
 use lx_links::Links;
 use lx_marks::Marks;
@@ -13,7 +13,7 @@ use lx_node::Key;
 /// Whether a node is among the siblings from the first up to the last.
 fn is_between(links: &Links, first: Key, last: Key, key: Key) -> bool
     requires { IsForest links.now }
-    ensures { result ≡ true → (m : Marked) (list : ℕ) → IsWindow links.now m list first last → IsWindow links.now (record m { leaves = key ∷ m.leaves }) list first last }
+    ensures { result ≡ true → (m : Marked) (list : ℕ) → IsMarkedWindow links.now m list first last → IsMarkedWindow links.now (record m { leaves = key ∷ m.leaves }) list first last }
 {
     let mut at = first;
     while at != key {
@@ -31,7 +31,7 @@ fn is_between(links: &Links, first: Key, last: Key, key: Key) -> bool
 /// The window that reaches to a sibling outside it. It looks to both sides in turn.
 fn stretched(links: &Links, first: Key, last: Key, key: Key) -> (Key, Key)
     requires { IsForest links.now }
-    ensures { (m : Marked) (list : ℕ) → lookups.parent_of links.now key ≡ Some list → IsWindow links.now m list first last → IsWindow links.now (record m { leaves = key ∷ m.leaves }) list result.0 result.1 }
+    ensures { (m : Marked) (list : ℕ) → lookups.parent_of links.now key ≡ Some list → IsMarkedWindow links.now m list first last → IsMarkedWindow links.now (record m { leaves = key ∷ m.leaves }) list result.0 result.1 }
 {
     let mut before = first;
     let mut behind = last;
@@ -55,7 +55,7 @@ fn stretched(links: &Links, first: Key, last: Key, key: Key) -> (Key, Key)
 /// The window with a sibling.
 fn reaching(links: &Links, first: Key, last: Key, key: Key) -> (Key, Key)
     requires { IsForest links.now }
-    ensures { (m : Marked) (list : ℕ) → lookups.parent_of links.now key ≡ Some list → IsWindow links.now m list first last → IsWindow links.now (record m { leaves = key ∷ m.leaves }) list result.0 result.1 }
+    ensures { (m : Marked) (list : ℕ) → lookups.parent_of links.now key ≡ Some list → IsMarkedWindow links.now m list first last → IsMarkedWindow links.now (record m { leaves = key ∷ m.leaves }) list result.0 result.1 }
 {
     if is_between(links, first, last, key) {
         (first, last)
@@ -67,7 +67,7 @@ fn reaching(links: &Links, first: Key, last: Key, key: Key) -> (Key, Key)
 /// The window with a node, where that is a child of the list.
 fn widened(links: &Links, list: Key, window: Option<(Key, Key)>, key: Key) -> Option<(Key, Key)>
     requires { IsForest links.now }
-    ensures { (m : Marked) → MatchOption window (AreUntouched m (lookups.children_of links.now list)) (λ ends. IsWindow links.now m list ends.0 ends.1) → MatchOption result (AreUntouched (record m { leaves = key ∷ m.leaves }) (lookups.children_of links.now list)) (λ ends. IsWindow links.now (record m { leaves = key ∷ m.leaves }) list ends.0 ends.1) }
+    ensures { (m : Marked) → MatchOption window (AreUntouched m (lookups.children_of links.now list)) (λ ends. IsMarkedWindow links.now m list ends.0 ends.1) → MatchOption result (AreUntouched (record m { leaves = key ∷ m.leaves }) (lookups.children_of links.now list)) (λ ends. IsMarkedWindow links.now (record m { leaves = key ∷ m.leaves }) list ends.0 ends.1) }
 {
     if links.parent(key) != Some(list) {
         return window;
@@ -87,7 +87,7 @@ fn widened_if(
     flag: bool,
 ) -> Option<(Key, Key)>
     requires { IsForest links.now }
-    ensures { (m : Marked) → MatchOption window (AreUntouched m (lookups.children_of links.now list)) (λ ends. IsWindow links.now m list ends.0 ends.1) → MatchOption result (AreUntouched (record m { elements = m.elements ++ (key, flag) ∷ [] }) (lookups.children_of links.now list)) (λ ends. IsWindow links.now (record m { elements = m.elements ++ (key, flag) ∷ [] }) list ends.0 ends.1) }
+    ensures { (m : Marked) → MatchOption window (AreUntouched m (lookups.children_of links.now list)) (λ ends. IsMarkedWindow links.now m list ends.0 ends.1) → MatchOption result (AreUntouched (record m { elements = m.elements ++ (key, flag) ∷ [] }) (lookups.children_of links.now list)) (λ ends. IsMarkedWindow links.now (record m { elements = m.elements ++ (key, flag) ∷ [] }) list ends.0 ends.1) }
 {
     if flag {
         return widened(links, list, window, key);
@@ -98,7 +98,7 @@ fn widened_if(
 /// The first and the last child of a list that are among these leaves.
 fn window_of_leaves(links: &Links, leaves: &[Key], list: Key) -> Option<(Key, Key)>
     requires { IsForest links.now }
-    ensures { MatchOption result (AreUntouched (record { leaves = leaves.now; elements = [] }) (lookups.children_of links.now list)) (λ ends. IsWindow links.now (record { leaves = leaves.now; elements = [] }) list ends.0 ends.1) }
+    ensures { MatchOption result (AreUntouched (record { leaves = leaves.now; elements = [] }) (lookups.children_of links.now list)) (λ ends. IsMarkedWindow links.now (record { leaves = leaves.now; elements = [] }) list ends.0 ends.1) }
 {
     let mut window = None;
     for leaf in leaves {
@@ -115,7 +115,7 @@ fn with_elements(
     of_leaves: Option<(Key, Key)>,
 ) -> Option<(Key, Key)>
     requires { IsForest links.now }
-    ensures { MatchOption of_leaves (AreUntouched (record marks.now { elements = [] }) (lookups.children_of links.now list)) (λ ends. IsWindow links.now (record marks.now { elements = [] }) list ends.0 ends.1) → MatchOption result (AreUntouched marks.now (lookups.children_of links.now list)) (λ ends. IsWindow links.now marks.now list ends.0 ends.1) }
+    ensures { MatchOption of_leaves (AreUntouched (record marks.now { elements = [] }) (lookups.children_of links.now list)) (λ ends. IsMarkedWindow links.now (record marks.now { elements = [] }) list ends.0 ends.1) → MatchOption result (AreUntouched marks.now (lookups.children_of links.now list)) (λ ends. IsMarkedWindow links.now marks.now list ends.0 ends.1) }
 {
     let mut window = of_leaves;
     for (key, flag) in marks.elements() {
@@ -128,7 +128,7 @@ fn with_elements(
 /// marks, and as these children are apart.
 pub(crate) fn window_of(links: &Links, marks: &Marks, list: Key) -> Option<(Key, Key)>
     requires { IsForest links.now }
-    ensures some { IfSome result (λ ends. IsWindow links.now marks.now list ends.0 ends.1) }
+    ensures some { IfSome result (λ ends. IsMarkedWindow links.now marks.now list ends.0 ends.1) }
     ensures none { IfNone result (AreUntouched marks.now (lookups.children_of links.now list)) }
 {
     let of_leaves = window_of_leaves(links, marks.leaves(), list);

@@ -38,8 +38,8 @@ use Rattle.lx_edit_laws.proofs.WrapSteps.{was_same}
 use Rattle.lx_edit_laws.proofs.WrapTurns.{removed_alone}
 use Rattle.lx_blocks.specs.Blocks.{passes, is_at, is_line}
 use Rattle.lx_list.specs.Dissolving.{emptied_into, paragraph_made, dissolved, dissolved_if, is_in_item, is_outermost, outermost_above, dissolved_around}
-use Rattle.lx_list_laws.specs.Reading.{IsSound}
-use Rattle.lx_list_laws.specs.Returning.{BecomesList, StandsFor}
+use Rattle.lx_list_laws.specs.Reading.{IsSoundDraft}
+use Rattle.lx_list_laws.specs.Returning.{BecomesList, StandsInPlaceOf}
 use Rattle.lx_list_laws.proofs.BlockMade.{label_new, label_before, label_each, IsMade, no_item_above}
 use Rattle.lx_list_laws.proofs.BlockPoints.{starts_each, sent_off, sent_off_other, sent_start}
 use Rattle.lx_list_laws.proofs.BlockSelected.{IsInlineBlock, all-one, inline_in, line}
@@ -209,7 +209,7 @@ module _ (f g : Forest) (type : ListType) (p b list item : ℕ) (s : IsListed f 
         ∙ m.others q there not_p not_b in
         u_children q ∙ ap (names_without list) same ∙ names_without-absent_list list (children_of f q) (no_list_in q)
 
-    pub stands : StandsFor f u p b n
+    pub stands : StandsInPlaceOf f u p b n
     stands = record {
       new = grind (arith, a.free, g_has n);
       paragraph = u_label n ∙ grind (arith, eqb_tells n n);
@@ -222,7 +222,7 @@ module _ (f g : Forest) (type : ListType) (p b list item : ℕ) (s : IsListed f 
 
 -- ---- the step
 
-label_paragraph : (list item : ℕ) (w v : Working) (q : ℕ) → IsSound w → paragraph_made list item w ≡ Ok v
+label_paragraph : (list item : ℕ) (w v : Working) (q : ℕ) → IsSoundDraft w → paragraph_made list item w ≡ Ok v
     → label_of v.forest q ≡ cond (eqb q w.next_key) (Some (record { key = w.next_key; kind = Paragraph; fields = plain_element })) (label_of w.forest q)
 unfolding paragraph_made emptied_into
 label_paragraph list item w v q s e =
@@ -253,8 +253,8 @@ undone f type p b list item v u s e =
     let c = first_part (paragraph_made list item v) (in_turn (paragraph_made list) []) a.0 a.1 in
     record { mid = c.0; paragraph = c.1; removed = ap (remove_step list) (was_same c.0 a.0 c.2) ∙ a.2 }
 
-pub stands_undone : (f : Forest) (type : ListType) (p b list item : ℕ) (v u : Working) → IsSound v → IsListed f v.forest type p b list item
-    → IsUndone list item v u → StandsFor f u.forest p b v.next_key
+pub stands_undone : (f : Forest) (type : ListType) (p b list item : ℕ) (v u : Working) → IsSoundDraft v → IsListed f v.forest type p b list item
+    → IsUndone list item v u → StandsInPlaceOf f u.forest p b v.next_key
 stands_undone f type p b list item v u sound s t =
     let g : Forest = v.forest in
     let n : ℕ = v.next_key in
@@ -269,7 +269,7 @@ stands_undone f type p b list item v u sound s t =
     stands f g type p b list item s x u.forest n a (λ q. label_paragraph list item v t.mid q sound t.paragraph) is
 
 -- points on the item go to the start of the paragraph, and all others stay
-paragraph_points : (list item p : ℕ) (t : Selection) (w v : Working) → IsSound w → parent_of w.forest list ≡ Some p → has item w.forest ≡ true
+paragraph_points : (list item p : ℕ) (t : Selection) (w v : Working) → IsSoundDraft w → parent_of w.forest list ≡ Some p → has item w.forest ≡ true
     → paragraph_made list item w ≡ Ok v
     → w.selection ≡ t → has_point_on p t ≡ false → has_point_on w.next_key t ≡ false
     → v.selection ≡ each_point (moved_to item (element_point w.next_key 0)) t
@@ -291,7 +291,7 @@ paragraph_points list item p t w v s up there e is off_p off_new =
     (λ q among. parent_here b.0.forest item q h (grind (arith, is_among-filter (is_at is_inline b.0.forest) q (children_of b.0.forest item), among))) b.2
     (ap (each_point (moved_to item to)) second) (sent_off item to t other) (sent_start item n t off_new)
 
-pub points_undone : (f : Forest) (type : ListType) (p b list item : ℕ) (t : Selection) (v u : Working) → IsSound v → IsListed f v.forest type p b list item
+pub points_undone : (f : Forest) (type : ListType) (p b list item : ℕ) (t : Selection) (v u : Working) → IsSoundDraft v → IsListed f v.forest type p b list item
     → IsUndone list item v u → v.selection ≡ t → has_point_on p t ≡ false → has_point_on list t ≡ false → has_point_on v.next_key t ≡ false
     → u.selection ≡ each_point (moved_to item (element_point v.next_key 0)) t
 points_undone f type p b list item t v u sound s done is off_p off_list off_new =

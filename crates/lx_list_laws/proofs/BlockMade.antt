@@ -38,7 +38,7 @@ use Rattle.lx_blocks.specs.Blocks.{passes, is_at}
 use Rattle.lx_caret.proofs.Fit.{each_still}
 use Rattle.lx_list.specs.Making.{list_fields, item_fields, unchecked}
 use Rattle.lx_list.specs.Listing.{is_list_of, item_made, list_made, itemized, listed}
-use Rattle.lx_list_laws.specs.Reading.{IsSound}
+use Rattle.lx_list_laws.specs.Reading.{IsSoundDraft}
 use Rattle.lx_list_laws.specs.Returning.{BecomesList}
 use Rattle.lx_list_laws.proofs.BlockPoints.{MovesOn, moves_each, GoesAlong, goes_along, left_first, still_off}
 use Rattle.lx_list_laws.proofs.LevelPoints.{put_stays, before_stays, removed_stays}
@@ -54,7 +54,7 @@ use Rattle.lx_list_laws.proofs.StayUnder.{Sends, keys_sent}
 
 -- ---- labels
 
-pub label_new : (kind : Kind) (fields : Fields) (w v : Working) (q : ℕ) → IsSound w → new_step kind fields w ≡ Ok v
+pub label_new : (kind : Kind) (fields : Fields) (w v : Working) (q : ℕ) → IsSoundDraft w → new_step kind fields w ≡ Ok v
     → label_of v.forest q ≡ cond (eqb q w.next_key) (Some (record { key = w.next_key; kind = kind; fields = fields })) (label_of w.forest q)
 label_new kind fields w v q s e =
     let l : Label = record { key = w.next_key; kind = kind; fields = fields } in
@@ -243,7 +243,7 @@ made_by type b w v e =
       remove = three.2;
     }
 
-became_by : (type : ListType) (p b : ℕ) (w v : Working) → IsSound w → parent_of w.forest b ≡ Some p → IsMadeBy type b w v → BecameList w v type p b
+became_by : (type : ListType) (p b : ℕ) (w v : Working) → IsSoundDraft w → parent_of w.forest b ≡ Some p → IsMadeBy type b w v → BecameList w v type p b
 became_by type p b w v s up o =
     let f : Forest = w.forest in
     let list : ℕ = w.next_key in
@@ -340,7 +340,7 @@ became_by type p b w v s up o =
           subst (GoesAlong b item t) (sym same) third;
     }
 
-pub became_list : (type : ListType) (p b : ℕ) (w v : Working) → IsSound w → parent_of w.forest b ≡ Some p → list_made type b w ≡ Ok v
+pub became_list : (type : ListType) (p b : ℕ) (w v : Working) → IsSoundDraft w → parent_of w.forest b ≡ Some p → list_made type b w ≡ Ok v
     → BecameList w v type p b
 became_list type p b w v s up e = became_by type p b w v s up (made_by type b w v e)
 

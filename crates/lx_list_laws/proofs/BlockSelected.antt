@@ -30,7 +30,7 @@ use Rattle.lx_blocks.specs.Walks.{nodes_before}
 use Rattle.lx_blocks.specs.Ranges.{is_fit, range_in, range_of}
 use Rattle.lx_blocks.proofs.Stretches.{before_and_from, first_from}
 use Rattle.lx_caret.specs.Lying.{EachPoint}
-use Rattle.lx_list.specs.Lines.{if_there, each_line}
+use Rattle.lx_list.specs.Lines.{step_if_there, each_line}
 use Rattle.lx_list_laws.proofs.ReadEdits.{so_at}
 use Rattle.lx_list_laws.proofs.ReadLines.{inline_no_block}
 use Rattle.lx_list_laws.proofs.ReadSaid.{inline_below}
@@ -164,11 +164,11 @@ pub step_alone : (step : ℕ → Working → Result Working Cause) (b : ℕ) (w 
 unfolding each_line range_of in_turn
 step_alone step b w v s keys e = by_range (range_in w.forest w.selection) refl e where
   by_range : (o : Result Ranged Cause) → range_in w.forest w.selection ≡ o
-      → after o (λ range. in_turn (if_there step) (selected_lines w.forest range) w) ≡ Ok v → step b w ≡ Ok v
+      → after o (λ range. in_turn (step_if_there step) (selected_lines w.forest range) w) ≡ Ok v → step b w ≡ Ok v
   by_range (Err cause) is e = absurd (cc)
   by_range (Ok r) is e =
       let ends = range_tells (λ q. is_within w.forest b q ≡ true) w.forest w.selection r is keys in
-      let one : in_turn (if_there step) (b ∷ []) w ≡ Ok v =
-      sym (ap (λ ks. in_turn (if_there step) ks w) (one_selected w.forest b s r ends.0 ends.1)) ∙ e in
-      let a = first_part (if_there step b w) (in_turn (if_there step) []) v one in
-      let there : if_there step b w ≡ Ok v = a.1 ∙ ap Ok (was_same a.0 v a.2) in rw s.there at there
+      let one : in_turn (step_if_there step) (b ∷ []) w ≡ Ok v =
+      sym (ap (λ ks. in_turn (step_if_there step) ks w) (one_selected w.forest b s r ends.0 ends.1)) ∙ e in
+      let a = first_part (step_if_there step b w) (in_turn (step_if_there step) []) v one in
+      let there : step_if_there step b w ≡ Ok v = a.1 ∙ ap Ok (was_same a.0 v a.2) in rw s.there at there

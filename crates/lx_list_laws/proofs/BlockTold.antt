@@ -25,12 +25,12 @@ use Rattle.lx_caret.specs.Lying.{EachPoint}
 use Rattle.lx_caret.proofs.Cleared.{range_lies}
 use Rattle.lx_caret.proofs.Fit.{after_tells}
 use Rattle.lx_caret.proofs.Lies.{both}
-use Rattle.lx_list.specs.Lines.{if_there, each_line}
+use Rattle.lx_list.specs.Lines.{step_if_there, each_line}
 use Rattle.lx_list.specs.Listing.{listed, make_list_step}
 use Rattle.lx_list.specs.Dissolving.{dissolved_around, remove_list_step}
 use Rattle.lx_list_laws.specs.Levels.{has_points_within}
-use Rattle.lx_list_laws.specs.Reading.{IsSound}
-use Rattle.lx_list_laws.specs.Returning.{MadeAndRemoved, StandsFor, BlocksComeBack}
+use Rattle.lx_list_laws.specs.Reading.{IsSoundDraft}
+use Rattle.lx_list_laws.specs.Returning.{MadeAndRemoved, StandsInPlaceOf, BlocksComeBack}
 use Rattle.lx_list_laws.proofs.BlockBack.{IsListed, IsUndone, item_block, undone, stands_undone, points_undone}
 use Rattle.lx_list_laws.proofs.BlockMade.{IsMade, BecameList, became_list, listed_alone}
 use Rattle.lx_list_laws.proofs.BlockPoints.{GoesAlong, along_apart, still_off, along_sent}
@@ -80,7 +80,7 @@ module _ (type : ListType) (p b : ℕ) (w v u : Working) (m : MadeAndRemoved typ
   abbrev g : Forest
   g = v.forest
 
-  s : IsSound w
+  s : IsSoundDraft w
   s = record { ready = m.ready; held = m.held }
 
   h : IsForest f
@@ -96,7 +96,7 @@ module _ (type : ListType) (p b : ℕ) (w v u : Working) (m : MadeAndRemoved typ
   became : BecameList w v type p b
   became = became_list type p b w v s m.becomes.up (listed_alone type p b w v m.becomes step)
 
-  sound : IsSound v
+  sound : IsSoundDraft v
   sound = (keeps_listed type b w v s (block_apart f b m.becomes.is_block) step).stays.sound
 
   item_up_now : parent_of g became.item ≡ Some became.list
@@ -115,7 +115,7 @@ module _ (type : ListType) (p b : ℕ) (w v u : Working) (m : MadeAndRemoved typ
   there : is_attached g became.item ≡ true
   unfolding remove_list_step each_line
   there =
-      let range = after_tells (range_of v) (λ r. in_turn (if_there dissolved_around) (selected_lines v.forest r) v) u m.removed in
+      let range = after_tells (range_of v) (λ r. in_turn (step_if_there dissolved_around) (selected_lines v.forest r) v) u m.removed in
       let lies = range_lies v range.0 range.1.0 in
       attached_above g became.item range.0.anchor.key became.is.order (both (is_attached g range.0.anchor.key) (lies_in g range.0.anchor) lies.anchor).0
       (ends_in (λ q. is_within g became.item q ≡ true) v range.0 range.1.0 keys).0
@@ -129,7 +129,7 @@ module _ (type : ListType) (p b : ℕ) (w v u : Working) (m : MadeAndRemoved typ
       undone f type p b became.list became.item v u between
       (step_alone dissolved_around became.item v u (item_block f g type p b became.list became.item between) keys m.removed)
 
-  stands : StandsFor f u.forest p b v.next_key
+  stands : StandsInPlaceOf f u.forest p b v.next_key
   stands = stands_undone f type p b became.list became.item v u sound between back
 
   -- ---- points
@@ -167,7 +167,7 @@ module _ (type : ListType) (p b : ℕ) (w v u : Working) (m : MadeAndRemoved typ
       (off_still became.list became.is.two (off_new became.list became.is.new_list)) (off_still n not_n (off_new n stands.new))
       ∙ along_sent b became.item (element_point n 0) w.selection v.selection went off_item
 
-  pub comes_back : (n : ℕ) × StandsFor w.forest u.forest p b n × (u.selection ≡ each_point (moved_to b (element_point n 0)) w.selection)
+  pub comes_back : (n : ℕ) × StandsInPlaceOf w.forest u.forest p b n × (u.selection ≡ each_point (moved_to b (element_point n 0)) w.selection)
   comes_back = (v.next_key, stands, points_back)
 
 pub told-blocks : BlocksComeBack

@@ -18,10 +18,10 @@ use Rattle.lx_blocks.specs.declared.ranges.Ranged.{Ranged}
 use Rattle.lx_blocks.specs.Blocks.{passes, is_at, block_of}
 use Rattle.lx_blocks.specs.Lines.{is_line_beside, up_to, behind_block, from_block, selected_lines}
 use Rattle.lx_blocks.specs.Ranges.{range_of, start_of, end_of}
-use Rattle.lx_list.specs.Lines.{if_there, each_line}
+use Rattle.lx_list.specs.Lines.{step_if_there, each_line}
 use Rattle.lx_list.specs.Listing.{listed, make_list_step}
 use Rattle.lx_list.specs.Dissolving.{dissolved_around, remove_list_step}
-use Rattle.lx_list_laws.specs.Reading.{InlinesFirst, IsSound, ListsComeAndGo}
+use Rattle.lx_list_laws.specs.Reading.{InlinesFirst, IsSoundDraft, ListsComeAndGo}
 use Rattle.lx_list_laws.proofs.ReadSound.{stays_then, stays_selected}
 use Rattle.lx_edit_laws.proofs.Reading.{kind_known}
 use Rattle.lx_list.proofs.Itemless.{there_at}
@@ -35,12 +35,12 @@ block_stays f g q stay block =
     let kind = kind_known f q (there_at is_text_block f q block) in ap (passes is_text_block) (stay.each q kind.0 kind.1 ∙ sym kind.1) ∙ block
 
 -- the lines are text blocks
-keeps_lines : (type : ListType) (ks : List ℕ) (w v : Working) → IsSound w → ((q : ℕ) → is_among q ks ≡ true → is_at is_text_block w.forest q ≡ true)
-    → in_turn (if_there (listed type)) ks w ≡ Ok v → Keeps w v
+keeps_lines : (type : ListType) (ks : List ℕ) (w v : Working) → IsSoundDraft w → ((q : ℕ) → is_among q ks ≡ true → is_at is_text_block w.forest q ≡ true)
+    → in_turn (step_if_there (listed type)) ks w ≡ Ok v → Keeps w v
 unfolding in_turn
 keeps_lines type [] w v s block e = keeps_same w v s e
 keeps_lines type (k ∷ ks) w v s block e =
-    let a = first_part (if_there (listed type) k w) (in_turn (if_there (listed type)) ks) v e in
+    let a = first_part (step_if_there (listed type) k w) (in_turn (step_if_there (listed type)) ks) v e in
     let one =
     keeps_either (is_attached w.forest k) (listed type k w) (Ok w) w a.0
     (λ is e. keeps_listed type k w a.0 s (block_apart w.forest k (block k (grind (arith, eqb_tells k k)))) e) (λ is e. keeps_same w a.0 s e) a.1 in
@@ -56,32 +56,32 @@ selected_blocks f r q among =
     let keys : List ℕ = up_to (behind_block f end (block_of f end.key)) (from_block f start (block_of f start.key)) in
     grind (arith, is_among-filter (is_line_beside f start.key) q keys, among)
 
-keeps_made : (type : ListType) (w v : Working) → IsSound w → make_list_step type w ≡ Ok v → Keeps w v
+keeps_made : (type : ListType) (w v : Working) → IsSoundDraft w → make_list_step type w ≡ Ok v → Keeps w v
 unfolding make_list_step each_line
 keeps_made type w v s e = by_range (range_of w) e where
-  by_range : (r : Result Ranged Cause) → after r (λ range. in_turn (if_there (listed type)) (selected_lines w.forest range) w) ≡ Ok v → Keeps w v
+  by_range : (r : Result Ranged Cause) → after r (λ range. in_turn (step_if_there (listed type)) (selected_lines w.forest range) w) ≡ Ok v → Keeps w v
   by_range (Ok range) e = keeps_lines type (selected_lines w.forest range) w v s (λ q among. selected_blocks w.forest range q among) e
   by_range (Err cause) e = absurd (cc)
 
 -- ---- removed
 
-removed_there : (k : ℕ) (w v : Working) → IsSound w → InlinesFirst w.forest → (there : Bool) → cond there (dissolved_around k w) (Ok w) ≡ Ok v → KeepsFirst w v
+removed_there : (k : ℕ) (w v : Working) → IsSoundDraft w → InlinesFirst w.forest → (there : Bool) → cond there (dissolved_around k w) (Ok w) ≡ Ok v → KeepsFirst w v
 removed_there k w v s inlines true e = keeps_dissolved_around k w v s inlines e
 removed_there k w v s inlines false e = first_same w v s inlines e
 
-removed_lines : (ks : List ℕ) (w v : Working) → IsSound w → InlinesFirst w.forest → in_turn (if_there dissolved_around) ks w ≡ Ok v → KeepsFirst w v
+removed_lines : (ks : List ℕ) (w v : Working) → IsSoundDraft w → InlinesFirst w.forest → in_turn (step_if_there dissolved_around) ks w ≡ Ok v → KeepsFirst w v
 unfolding in_turn
 removed_lines [] w v s inlines e = first_same w v s inlines e
 removed_lines (k ∷ ks) w v s inlines e =
-    let a = first_part (if_there dissolved_around k w) (in_turn (if_there dissolved_around) ks) v e in
+    let a = first_part (step_if_there dissolved_around k w) (in_turn (step_if_there dissolved_around) ks) v e in
     let one = removed_there k w a.0 s inlines (is_attached w.forest k) a.1 in
     let rest = removed_lines ks a.0 v one.stays.sound one.first a.2 in
     record { stays = stays_then w a.0 v one.stays rest.stays; first = rest.first; read = rest.read ∙ one.read }
 
-keeps_removed : (w v : Working) → IsSound w → InlinesFirst w.forest → remove_list_step w ≡ Ok v → KeepsFirst w v
+keeps_removed : (w v : Working) → IsSoundDraft w → InlinesFirst w.forest → remove_list_step w ≡ Ok v → KeepsFirst w v
 unfolding remove_list_step each_line
 keeps_removed w v s inlines e = by_range (range_of w) e where
-  by_range : (r : Result Ranged Cause) → after r (λ range. in_turn (if_there dissolved_around) (selected_lines w.forest range) w) ≡ Ok v → KeepsFirst w v
+  by_range : (r : Result Ranged Cause) → after r (λ range. in_turn (step_if_there dissolved_around) (selected_lines w.forest range) w) ≡ Ok v → KeepsFirst w v
   by_range (Ok range) e = removed_lines (selected_lines w.forest range) w v s inlines e
   by_range (Err cause) e = absurd (cc)
 

@@ -32,7 +32,7 @@ use Rattle.lx_list.specs.Dissolving.{emptied_into, paragraph_made, dissolved, is
 use Rattle.lx_edit_laws.specs.Reading.{read_below}
 use Rattle.lx_edit_laws.proofs.Reading.{down, spread-none, reads_of, read-level, IsKnown, reads_known, reads-instead}
 use Rattle.lx_edit_laws.proofs.WrapSteps.{was_same, was_taken, before_below}
-use Rattle.lx_list_laws.specs.Reading.{stand_first, InlinesFirst, IsSound, ReadsAs}
+use Rattle.lx_list_laws.specs.Reading.{stand_first, InlinesFirst, IsSoundDraft, ReadsAs}
 use Rattle.lx_list_laws.proofs.ReadOrder.{first-same, first-others}
 use Rattle.lx_list_laws.proofs.ReadForests.{reads_told}
 use Rattle.lx_list_laws.proofs.ReadSound.{StaysSound, stays_then, stays_selected, sound_path}
@@ -178,11 +178,11 @@ pub record KeepsFirst (w v : Working) : Type 0 where
   pub first : InlinesFirst v.forest
   pub read : ReadsAs w v
 
-pub first_same : (w v : Working) → IsSound w → InlinesFirst w.forest → ◌≡◌ {A = Result Working Cause} (Ok w) (Ok v) → KeepsFirst w v
+pub first_same : (w v : Working) → IsSoundDraft w → InlinesFirst w.forest → ◌≡◌ {A = Result Working Cause} (Ok w) (Ok v) → KeepsFirst w v
 first_same w v s first e = subst (KeepsFirst w) (was_same w v e) (record { stays = stays_selected w w s refl refl; first = first; read = refl })
 
 -- a list that is below nothing can't be removed, nor can anything come before it
-pub top_stays : (list : ℕ) (lines : List ℕ) (w u v : Working) → IsSound w → in_turn (paragraph_made list) lines w ≡ Ok u → remove_step list u ≡ Ok v
+pub top_stays : (list : ℕ) (lines : List ℕ) (w u v : Working) → IsSoundDraft w → in_turn (paragraph_made list) lines w ≡ Ok u → remove_step list u ≡ Ok v
     → (p : ℕ) × (parent_of w.forest list ≡ Some p)
 unfolding in_turn paragraph_made remove_step
 top_stays list [] w u v s e f = elim (cases_option (parent_of w.forest list)) [
@@ -220,7 +220,7 @@ may_say f p list h held up is =
       block = λ q among. block_apart f q (block q among);
     }
 
-keeps_dissolved : (list : ℕ) (w v : Working) → IsSound w → InlinesFirst w.forest → is_outermost w.forest list ≡ true → dissolved list w ≡ Ok v → KeepsFirst w v
+keeps_dissolved : (list : ℕ) (w v : Working) → IsSoundDraft w → InlinesFirst w.forest → is_outermost w.forest list ≡ true → dissolved list w ≡ Ok v → KeepsFirst w v
 unfolding dissolved
 keeps_dissolved list w v s inlines outer e =
     let f : Forest = w.forest in
@@ -246,7 +246,7 @@ found_passes test (x ∷ xs) k e = elim (cases_Bool (test x)) [
   | inr later ↦ found_passes test xs k (grind (arith, e, later))
 ]
 
-pub keeps_dissolved_around : (line : ℕ) (w v : Working) → IsSound w → InlinesFirst w.forest → dissolved_around line w ≡ Ok v → KeepsFirst w v
+pub keeps_dissolved_around : (line : ℕ) (w v : Working) → IsSoundDraft w → InlinesFirst w.forest → dissolved_around line w ≡ Ok v → KeepsFirst w v
 unfolding dissolved_around
 keeps_dissolved_around line w v s first e = elim (cases_option (outermost_above w.forest line)) [
   | inl none ↦ first_same w v s first (rw none at e)

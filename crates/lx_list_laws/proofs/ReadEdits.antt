@@ -26,7 +26,7 @@ use Rattle.lx_edit_laws.proofs.Reading.{absent, read_without, kind_known}
 use Rattle.lx_edit_laws.proofs.WrapTurns.{WentOver, was_removed as removal}
 use Rattle.lx_edit_laws.proofs.WrapTold.{WentAll}
 use Rattle.lx_edit_laws.proofs.WrapSteps.{was_put, was_put_before, before_below, silent}
-use Rattle.lx_list_laws.specs.Reading.{stand_first, InlinesFirst, IsSound}
+use Rattle.lx_list_laws.specs.Reading.{stand_first, InlinesFirst, IsSoundDraft}
 use Rattle.lx_list_laws.proofs.ReadOrder.{first-same, first-without, first-with}
 use Rattle.lx_list_laws.proofs.ReadForests.{CameNew, came_empty}
 use Rattle.lx_list_laws.proofs.ReadSound.{new_forest, is_free, sound_new}
@@ -46,7 +46,7 @@ text_new f l q h free mute = elim (eqb_tells q l.key) [
   | inr other ↦ ap (λ o. text_or_none (text_in o)) (label_of-with_new l f q h free ∙ ap (λ b. cond b (Some l) (label_of f q)) other.0)
 ]
 
-pub born : (kind : Kind) (fields : Fields) (w u v : Working) (p : ℕ) (before : Option ℕ) → IsSound w → is_text kind ≡ false → new_step kind fields w ≡ Ok u
+pub born : (kind : Kind) (fields : Fields) (w u v : Working) (p : ℕ) (before : Option ℕ) → IsSoundDraft w → is_text kind ≡ false → new_step kind fields w ≡ Ok u
     → CanPut p w.next_key u.forest → v.forest ≡ put_in p before w.next_key u.forest → IsBorn w v kind p before
 born kind fields w u v p before s mute e can put =
     let f : Forest = w.forest in
@@ -76,7 +76,7 @@ born kind fields w u v p before s mute e can put =
     }
 
 -- at the end of a node's children
-pub born_last : (kind : Kind) (fields : Fields) (w u v : Working) (p : ℕ) → IsSound w → is_text kind ≡ false → new_step kind fields w ≡ Ok u
+pub born_last : (kind : Kind) (fields : Fields) (w u v : Working) (p : ℕ) → IsSoundDraft w → is_text kind ≡ false → new_step kind fields w ≡ Ok u
     → put_step w.next_key p (size_of u.forest p) u ≡ Ok v → IsBorn w v kind p None
 born_last kind fields w u v p s mute e put =
     let was = was_put w.next_key p (size_of u.forest p) u v put in
@@ -84,14 +84,14 @@ born_last kind fields w u v p s mute e put =
     (was.1 ∙ ap (λ o. put_in p o w.next_key u.forest) (slice_get_past (children_of u.forest p) (size_of u.forest p) (omega arith)))
 
 -- a new node changes no parent
-pub parent_made : (kind : Kind) (fields : Fields) (w u : Working) (q : ℕ) → IsSound w → new_step kind fields w ≡ Ok u
+pub parent_made : (kind : Kind) (fields : Fields) (w u : Working) (q : ℕ) → IsSoundDraft w → new_step kind fields w ≡ Ok u
     → parent_of u.forest q ≡ parent_of w.forest q
 parent_made kind fields w u q s e =
     ap (λ x. parent_of x q) (new_forest kind fields w u e)
     ∙ parent_of-with_new (record { key = w.next_key; kind = kind; fields = fields }) w.forest q s.ready.in_order (is_free w s)
 
 -- before another node
-pub born_at : (kind : Kind) (fields : Fields) (w u v : Working) (other p : ℕ) → IsSound w → is_text kind ≡ false → parent_of w.forest other ≡ Some p
+pub born_at : (kind : Kind) (fields : Fields) (w u v : Working) (other p : ℕ) → IsSoundDraft w → is_text kind ≡ false → parent_of w.forest other ≡ Some p
     → new_step kind fields w ≡ Ok u
     → put_before_step w.next_key other u ≡ Ok v → IsBorn w v kind p (Some other)
 born_at kind fields w u v other p s mute up e put =
@@ -104,7 +104,7 @@ pub record IsBornBefore (w v : Working) (kind : Kind) (other : ℕ) : Type 0 whe
   pub up : parent_of w.forest other ≡ Some parent
   pub born : IsBorn w v kind parent (Some other)
 
-pub born_before : (kind : Kind) (fields : Fields) (w u v : Working) (other : ℕ) → IsSound w → is_text kind ≡ false → new_step kind fields w ≡ Ok u
+pub born_before : (kind : Kind) (fields : Fields) (w u v : Working) (other : ℕ) → IsSoundDraft w → is_text kind ≡ false → new_step kind fields w ≡ Ok u
     → put_before_step w.next_key other u ≡ Ok v → IsBornBefore w v kind other
 born_before kind fields w u v other s mute e put =
     let below = before_below w.next_key other u v put in

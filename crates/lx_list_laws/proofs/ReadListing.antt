@@ -32,7 +32,7 @@ use Rattle.lx_edit.proofs.Climbed.{first_part}
 use Rattle.lx_edit.proofs.Paths.{put_before_path, children_path, remove_path}
 use Rattle.lx_blocks.specs.Blocks.{passes, is_at}
 use Rattle.lx_list.specs.Listing.{is_list_of, item_made, list_made, itemized, has_mark, remarked, retyped_with, retyped, retyped_above, listed}
-use Rattle.lx_list.specs.Making.{list_fields, item_fields, unchecked, changed, set_changed, change_step, with_extra, checked_as, check_item}
+use Rattle.lx_list.specs.Making.{list_fields, item_fields, unchecked, element_fields_changed, set_changed, change_step, with_extra_changed, checked_as, check_item}
 use Rattle.lx_list.proofs.Above.{list_above}
 use Rattle.lx_edit_laws.specs.Reading.{text_at, read_below}
 use Rattle.lx_edit_laws.proofs.Reading.{read-leaf}
@@ -40,7 +40,7 @@ use Rattle.lx_edit_laws.proofs.WrapTrees.{own}
 use Rattle.lx_edit_laws.proofs.WrapTold.{WentAll, went_all}
 use Rattle.lx_edit_laws.proofs.WrapLists.{names_with-end}
 use Rattle.lx_edit_laws.proofs.WrapSteps.{was_same}
-use Rattle.lx_list_laws.specs.Reading.{stand_first, InlinesFirst, IsSound, ReadsAs}
+use Rattle.lx_list_laws.specs.Reading.{stand_first, InlinesFirst, IsSoundDraft, ReadsAs}
 use Rattle.lx_list_laws.proofs.ReadOrder.{all-same, first-same, first-all, StandBeside, beside-previous, beside-with, beside-apart}
 use Rattle.lx_list_laws.proofs.ReadForests.{reads_alike, CameNew, came_here, came_elsewhere, came_empty, read_came}
 use Rattle.lx_list_laws.proofs.ReadLines.{list_tells}
@@ -59,7 +59,7 @@ pub record Keeps (w v : Working) : Type 0 where
 pub keeps_then : (u v w : Working) → Keeps u v → Keeps v w → Keeps u w
 keeps_then u v w a b = record { stays = stays_then u v w a.stays b.stays; first = λ x. b.first (a.first x); read = b.read ∙ a.read }
 
-pub keeps_same : (w v : Working) → IsSound w → ◌≡◌ {A = Result Working Cause} (Ok w) (Ok v) → Keeps w v
+pub keeps_same : (w v : Working) → IsSoundDraft w → ◌≡◌ {A = Result Working Cause} (Ok w) (Ok v) → Keeps w v
 keeps_same w v s e = subst (Keeps w) (was_same w v e) (record { stays = stays_selected w w s refl refl; first = λ x. x; read = refl })
 
 -- where a test chooses between two
@@ -69,8 +69,8 @@ keeps_either true one other w v first second e = first refl e
 keeps_either false one other w v first second e = second refl e
 
 -- a step for each of a list
-pub keeps_each : (step : ℕ → Working → Result Working Cause) → ((k : ℕ) (w v : Working) → IsSound w → step k w ≡ Ok v → Keeps w v)
-    → (ks : List ℕ) (w v : Working) → IsSound w → in_turn step ks w ≡ Ok v → Keeps w v
+pub keeps_each : (step : ℕ → Working → Result Working Cause) → ((k : ℕ) (w v : Working) → IsSoundDraft w → step k w ≡ Ok v → Keeps w v)
+    → (ks : List ℕ) (w v : Working) → IsSoundDraft w → in_turn step ks w ≡ Ok v → Keeps w v
 unfolding in_turn
 keeps_each step each [] w v s e = keeps_same w v s e
 keeps_each step each (k ∷ ks) w v s e =
@@ -145,7 +145,7 @@ item_first w u x line list m b t first =
     ∙ first-same (is_at is_inline u.forest) (is_at is_inline w.forest) (children_of w.forest line) (λ q among. same q)
     ∙ first-all (is_at is_inline w.forest) (children_of w.forest line) m.inline) (first_born w u Item list None b item_kind.1 (inl m.no_item) first)
 
-pub keeps_item : (type : ListType) (line list : ℕ) (w v : Working) → IsSound w → MayBeItem w.forest line list → item_made type line list w ≡ Ok v → Keeps w v
+pub keeps_item : (type : ListType) (line list : ℕ) (w v : Working) → IsSoundDraft w → MayBeItem w.forest line list → item_made type line list w ≡ Ok v → Keeps w v
 unfolding item_made
 keeps_item type line list w v s m e =
     let item : ℕ = w.next_key in
@@ -199,7 +199,7 @@ has_list w v type p other up b =
       apart = λ same. absurd (grind (arith, same, has-child f other p up, b.came.free));
     }
 
-pub keeps_list : (type : ListType) (line : ℕ) (w v : Working) → IsSound w → is_at is_inline w.forest line ≡ false
+pub keeps_list : (type : ListType) (line : ℕ) (w v : Working) → IsSoundDraft w → is_at is_inline w.forest line ≡ false
     → list_all (is_at is_inline w.forest) (children_of w.forest line) ≡ true
     → list_made type line w ≡ Ok v → Keeps w v
 unfolding list_made
@@ -241,7 +241,7 @@ before_in f line list e =
       | inr (p, up) ↦ (p, beside-previous (children_of f p) line list (sym (ap (λ o. previous_in (children_below f o) line) up) ∙ e))
     ]
 
-pub keeps_itemized : (type : ListType) (line : ℕ) (o : Option ℕ) (w v : Working) → IsSound w → is_at is_inline w.forest line ≡ false
+pub keeps_itemized : (type : ListType) (line : ℕ) (o : Option ℕ) (w v : Working) → IsSoundDraft w → is_at is_inline w.forest line ≡ false
     → list_all (is_at is_inline w.forest) (children_of w.forest line) ≡ true
     → previous_of w.forest line ≡ o → itemized type line o w ≡ Ok v → Keeps w v
 keeps_itemized type line None w v s clear inline at e = keeps_list type line w v s clear inline e
@@ -256,16 +256,16 @@ keeps_itemized type line (Some list) w v s clear inline at e =
 
 -- the same fields with a change of what only elements have give the same text
 changed_silent : (change : ElementFields → ElementFields) (kind : Kind) (x : Fields)
-    → text_or_none (text_fields kind (changed change x)) ≡ text_or_none (text_fields kind x)
+    → text_or_none (text_fields kind (element_fields_changed change x)) ≡ text_or_none (text_fields kind x)
 changed_silent change kinds.Text (fields.Element element) = refl
 changed_silent change kind (fields.Element element) = refl
 changed_silent change kind other = refl
 
 set_text : (change : ElementFields → ElementFields) (f : Forest) (k : ℕ) (x : Fields) (q : ℕ) → fields_of f k ≡ Some x
-    → text_at (with_fields k (changed change x) f) q ≡ text_at f q
+    → text_at (with_fields k (element_fields_changed change x) f) q ≡ text_at f q
 set_text change f k x q is =
-    ap (λ o. text_or_none (text_in o)) (label_of-with_fields k (changed change x) f q) ∙ by_label (label_of f q) refl where
-      by_label : (o : Option Label) → label_of f q ≡ o → text_or_none (text_in (option_map (fields_at k (changed change x)) o)) ≡ text_or_none (text_in o)
+    ap (λ o. text_or_none (text_in o)) (label_of-with_fields k (element_fields_changed change x) f q) ∙ by_label (label_of f q) refl where
+      by_label : (o : Option Label) → label_of f q ≡ o → text_or_none (text_in (option_map (fields_at k (element_fields_changed change x)) o)) ≡ text_or_none (text_in o)
       by_label None at = refl
       by_label (Some l) at = elim (eqb_tells l.key k) [
         | inl here ↦
@@ -275,14 +275,14 @@ set_text change f k x q is =
         | inr other ↦ rw other.0 refl
       ]
 
-keeps_change : (change : ElementFields → ElementFields) (k : ℕ) (w v : Working) → IsSound w → change_step change k w ≡ Ok v → Keeps w v
+keeps_change : (change : ElementFields → ElementFields) (k : ℕ) (w v : Working) → IsSoundDraft w → change_step change k w ≡ Ok v → Keeps w v
 unfolding change_step
 keeps_change change k w v s e = by_fields (fields_of w.forest k) refl e where
   by_fields : (o : Option Fields) → fields_of w.forest k ≡ o → set_changed change k o w ≡ Ok v → Keeps w v
   by_fields None is e = keeps_same w v s e
   by_fields (Some x) is e =
       let f : Forest = w.forest in
-      let y : Fields = changed change x in
+      let y : Fields = element_fields_changed change x in
       let here : v.forest ≡ with_fields k y f = set_forest k y w v e in
       let stays = sound_path.set k y w v s e in
       let kind : (q : ℕ) → kind_of v.forest q ≡ kind_of f q = λ q. ap (λ g. kind_of g q) here ∙ kind_of-with_fields k y f q in
@@ -301,12 +301,12 @@ keeps_change change k w v s e = by_fields (fields_of w.forest k) refl e where
         }) children 0;
       }
 
-keeps_remarked : (type : ListType) (k : ℕ) (w v : Working) → IsSound w → remarked type k w ≡ Ok v → Keeps w v
+keeps_remarked : (type : ListType) (k : ℕ) (w v : Working) → IsSoundDraft w → remarked type k w ≡ Ok v → Keeps w v
 unfolding check_item
 keeps_remarked Check k w v s e =
     keeps_either (has_mark (fields_of w.forest k)) (Ok w) (check_item (Some false) k w) w v (λ is e. keeps_same w v s e)
-    (λ is e. keeps_change (with_extra (checked_as (Some false))) k w v s e) e
-keeps_remarked other k w v s e = keeps_change (with_extra (checked_as None)) k w v s e
+    (λ is e. keeps_change (with_extra_changed (checked_as (Some false))) k w v s e) e
+keeps_remarked other k w v s e = keeps_change (with_extra_changed (checked_as None)) k w v s e
 
 -- ---- a list gets another type
 
@@ -320,7 +320,7 @@ list_filled w u x type p list up b t =
     read_back u.forest x p list w.next_key (record { in_order = h; all = t; beside = l.beside }) 0
     (not_root u.forest w.next_key p h ups.0) (not_root u.forest list p h ups.1)
 
-keeps_retyped_with : (type : ListType) (list : ℕ) (o : Option Fields) (w v : Working) → IsSound w → is_at is_inline w.forest list ≡ false
+keeps_retyped_with : (type : ListType) (list : ℕ) (o : Option Fields) (w v : Working) → IsSoundDraft w → is_at is_inline w.forest list ≡ false
     → retyped_with type list o w ≡ Ok v → Keeps w v
 keeps_retyped_with type list None w v s clear e = keeps_same w v s e
 keeps_retyped_with type list (Some x) w v s clear e =
@@ -350,7 +350,7 @@ keeps_retyped_with type list (Some x) w v s clear e =
     } in
     keeps_then w d.0 v up_to (keeps_each (remarked type) (keeps_remarked type) (children_of d.0.forest new) d.0 v left.sound d.2)
 
-pub keeps_retyped_above : (type : ListType) (line : ℕ) (o : Option ℕ) (w v : Working) → IsSound w → is_at is_item w.forest line ≡ true
+pub keeps_retyped_above : (type : ListType) (line : ℕ) (o : Option ℕ) (w v : Working) → IsSoundDraft w → is_at is_item w.forest line ≡ true
     → parent_of w.forest line ≡ o → retyped_above type o w ≡ Ok v → Keeps w v
 unfolding retyped
 keeps_retyped_above type line None w v s item up e = keeps_same w v s e
@@ -362,7 +362,7 @@ keeps_retyped_above type line (Some list) w v s item up e =
 
 -- ---- a line
 
-pub keeps_listed : (type : ListType) (line : ℕ) (w v : Working) → IsSound w → is_at is_inline w.forest line ≡ false → listed type line w ≡ Ok v → Keeps w v
+pub keeps_listed : (type : ListType) (line : ℕ) (w v : Working) → IsSoundDraft w → is_at is_inline w.forest line ≡ false → listed type line w ≡ Ok v → Keeps w v
 unfolding listed
 keeps_listed type line w v s clear e =
     let all : Bool = list_all (is_at is_inline w.forest) (children_of w.forest line) in

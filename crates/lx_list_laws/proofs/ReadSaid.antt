@@ -35,7 +35,7 @@ use Rattle.lx_edit_laws.proofs.WrapTrees.{not_child}
 use Rattle.lx_edit_laws.proofs.WrapTurns.{WentOver, went_over}
 use Rattle.lx_edit_laws.proofs.WrapLists.{names_with-none, names_with-twice}
 use Rattle.lx_edit_laws.proofs.WrapSteps.{was_same}
-use Rattle.lx_list_laws.specs.Reading.{IsSound}
+use Rattle.lx_list_laws.specs.Reading.{IsSoundDraft}
 use Rattle.lx_list_laws.proofs.ReadOrder.{filter-same, filter-others}
 use Rattle.lx_list_laws.proofs.ReadForests.{AreTold, reads_told, CameNew, came_here, came_elsewhere, came_empty}
 use Rattle.lx_list_laws.proofs.ReadOver.{told_over}
@@ -146,7 +146,7 @@ module _ (f u g : Forest) (p list line n : ℕ) (c : CameNew f u n p (Some list)
         up = is_up;
       }
 
-pub sound_paragraph : (list line : ℕ) (w v : Working) → IsSound w → paragraph_made list line w ≡ Ok v → StaysSound w v
+pub sound_paragraph : (list line : ℕ) (w v : Working) → IsSoundDraft w → paragraph_made list line w ≡ Ok v → StaysSound w v
 unfolding paragraph_made emptied_into
 sound_paragraph list line w v s e =
     let n : ℕ = w.next_key in
@@ -161,7 +161,7 @@ sound_paragraph list line w v s e =
     b.2 in
     stays_then w b.0 v put filled
 
-pub is_said : (p list line : ℕ) (w v : Working) → IsSound w → parent_of w.forest list ≡ Some p → has line w.forest ≡ true → eqb line p ≡ false
+pub is_said : (p list line : ℕ) (w v : Working) → IsSoundDraft w → parent_of w.forest list ≡ Some p → has line w.forest ≡ true → eqb line p ≡ false
     → paragraph_made list line w ≡ Ok v
     → IsSaid w.forest v.forest p list line w.next_key
 unfolding paragraph_made emptied_into
@@ -296,7 +296,7 @@ module _ (f x g : Forest) (p list line n : ℕ) (ls : List ℕ) (held : IsHeld m
         reads = both;
       }
 
-pub are_said : (p list : ℕ) (ls : List ℕ) (w v : Working) → IsSound w → MaySay w.forest p list ls → in_turn (paragraph_made list) ls w ≡ Ok v
+pub are_said : (p list : ℕ) (ls : List ℕ) (w v : Working) → IsSoundDraft w → MaySay w.forest p list ls → in_turn (paragraph_made list) ls w ≡ Ok v
     → AreSaid w.forest v.forest p list ls × StaysSound w v
 unfolding in_turn
 are_said p list [] w v s m e =

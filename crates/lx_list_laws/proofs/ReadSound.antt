@@ -19,11 +19,11 @@ use Rattle.lx_draft.proofs.CoveredSteps.{covered-new, covered-set, covered-splic
 use Rattle.lx_draft.proofs.Put.{both_none, can_put, put_fits}
 use Rattle.lx_edit.proofs.Climbed.{taken-forest}
 use Rattle.lx_blocks.proofs.Paths.{IsWay}
-use Rattle.lx_list_laws.specs.Reading.{IsSound}
+use Rattle.lx_list_laws.specs.Reading.{IsSoundDraft}
 
 -- what became of a draft is sound, and each node has its kind
 pub record StaysSound (w v : Working) : Type 0 where
-  pub sound : IsSound v
+  pub sound : IsSoundDraft v
   pub kinds : KindsStay w.forest v.forest
 
 by_covered : (w v : Working) → AreCovered w v → IsHeld may_hold v.forest → StaysSound w v
@@ -32,7 +32,7 @@ by_covered w v c held = record { sound = record { ready = c.ready; held = held }
 pub stays_then : (u v w : Working) → StaysSound u v → StaysSound v w → StaysSound u w
 stays_then u v w a b = record { sound = b.sound; kinds = record { each = λ q kind is. b.kinds.each q kind (a.kinds.each q kind is) } }
 
-pub stays_selected : (w v : Working) → IsSound w → v.forest ≡ w.forest → v.next_key ≡ w.next_key → StaysSound w v
+pub stays_selected : (w v : Working) → IsSoundDraft w → v.forest ≡ w.forest → v.next_key ≡ w.next_key → StaysSound w v
 stays_selected w v s same key = record {
   sound = record {
     ready = record {
@@ -51,10 +51,10 @@ pub new_forest : (kind : Kind) (fields : Fields) (w v : Working) → new_step ki
 unfolding new_step
 new_forest kind fields w v e = ap (λ (x : Working). x.forest) (sym (answered (over_limits (characters_of fields) w) (made kind fields w) v e).1)
 
-pub is_free : (w : Working) → IsSound w → has w.next_key w.forest ≡ false
+pub is_free : (w : Working) → IsSoundDraft w → has w.next_key w.forest ≡ false
 is_free w s = s.ready.free w.next_key (omega arith)
 
-pub sound_new : (kind : Kind) (fields : Fields) (w v : Working) → IsSound w → new_step kind fields w ≡ Ok v → StaysSound w v
+pub sound_new : (kind : Kind) (fields : Fields) (w v : Working) → IsSoundDraft w → new_step kind fields w ≡ Ok v → StaysSound w v
 sound_new kind fields w v s e =
     by_covered w v (covered-new kind fields w v s.ready e)
     (subst (IsHeld may_hold) (sym (new_forest kind fields w v e))
@@ -69,12 +69,12 @@ set_forest k fields w v e =
     (sym (answered (option_or (set_fault k fields w.forest) (over_limits (characters_of fields) w))
     (fields_written k fields (characters_of fields) (set_points k fields) w) v e).1)
 
-sound_set : (k : ℕ) (fields : Fields) (w v : Working) → IsSound w → set_step k fields w ≡ Ok v → StaysSound w v
+sound_set : (k : ℕ) (fields : Fields) (w v : Working) → IsSoundDraft w → set_step k fields w ≡ Ok v → StaysSound w v
 sound_set k fields w v s e =
     by_covered w v (covered-set k fields w v s.ready e)
     (subst (IsHeld may_hold) (sym (set_forest k fields w v e)) (IsHeld-with_fields may_hold w.forest s.ready.in_order s.held k fields))
 
-sound_splice : (k from to : ℕ) (new : List ℕ) (w v : Working) → IsSound w → splice_step k from to new w ≡ Ok v → StaysSound w v
+sound_splice : (k from to : ℕ) (new : List ℕ) (w v : Working) → IsSoundDraft w → splice_step k from to new w ≡ Ok v → StaysSound w v
 unfolding splice_step
 sound_splice k from to new w v s e =
     let x : Fields = label_with_piece (label_of w.forest k) from to new in
@@ -86,12 +86,12 @@ sound_splice k from to new w v s e =
 
 -- ---- places
 
-sound_take : (k : ℕ) (w v : Working) → IsSound w → take_step k w ≡ Ok v → StaysSound w v
+sound_take : (k : ℕ) (w v : Working) → IsSoundDraft w → take_step k w ≡ Ok v → StaysSound w v
 sound_take k w v s e =
     by_covered w v (covered-take k w v s.ready e)
     (subst (IsHeld may_hold) (sym (taken-forest k w v e)) (IsHeld-take_out may_hold w.forest s.ready.in_order s.held k))
 
-sound_put : (k p index : ℕ) (w v : Working) → IsSound w → put_step k p index w ≡ Ok v → StaysSound w v
+sound_put : (k p index : ℕ) (w v : Working) → IsSoundDraft w → put_step k p index w ≡ Ok v → StaysSound w v
 unfolding put_step
 sound_put k p index w v s e =
     let told = answered (option_or (put_fault k p index w.forest) (over_counts w)) (node_placed k p index w) v e in
@@ -103,7 +103,7 @@ sound_put k p index w v s e =
 
 -- ---- every edit
 
-pub sound_path : IsWay IsSound StaysSound
+pub sound_path : IsWay IsSoundDraft StaysSound
 sound_path = record {
   ready = λ w v s. s.sound;
   selected = λ w s d. stays_selected w (record w { selection = s }) d refl refl;

@@ -37,8 +37,8 @@ use Rattle.lx_caret.proofs.Moves.{stays_before, put_before_in, stays_each_moved}
 use Rattle.lx_caret.proofs.Removes.{IsClear, remove_fits}
 use Rattle.lx_list.specs.Dissolving.{emptied_into, paragraph_made, dissolved, is_in_item, is_outermost, outermost_above, dissolved_around}
 use Rattle.lx_list.proofs.Itemless.{there_at}
-use Rattle.lx_list.specs.Lines.{if_there}
-use Rattle.lx_list_laws.specs.Reading.{IsSound}
+use Rattle.lx_list.specs.Lines.{step_if_there}
+use Rattle.lx_list_laws.specs.Reading.{IsSoundDraft}
 use Rattle.lx_list_laws.specs.Staying.{goes_with_list}
 use Rattle.lx_list_laws.proofs.ReadDissolved.{lines_of, among_lines, IsEmptied, may_say, top_stays, found_passes}
 use Rattle.lx_list_laws.proofs.ReadLines.{list_or_item}
@@ -173,7 +173,7 @@ unfolding dissolved
 dissolved_remains ks list line w v r found place outer e =
     let f : Forest = w.forest in
     let lines : List ℕ = lines_of f list in
-    let sound : IsSound w = record { ready = r.fit.ready; held = r.fit.held } in
+    let sound : IsSoundDraft w = record { ready = r.fit.ready; held = r.fit.held } in
     let a = first_part (in_turn (paragraph_made list) lines w) (remove_step list) v e in
     let g : Forest = a.0.forest in
     let above = top_stays list lines w a.0 v sound a.1 a.2 in
@@ -241,11 +241,11 @@ around_remains ks line w v r there e = elim (cases_option (outermost_above w.for
 ]
 
 -- every line in its turn
-pub lines_remain : (ks : List ℕ) (w v : Working) → Remains ks w → in_turn (if_there dissolved_around) ks w ≡ Ok v → Fit v
+pub lines_remain : (ks : List ℕ) (w v : Working) → Remains ks w → in_turn (step_if_there dissolved_around) ks w ≡ Ok v → Fit v
 unfolding in_turn
 lines_remain [] w v r e = subst Fit (was_same w v e) r.fit
 lines_remain (line ∷ ks) w v r e =
-    let a = first_part (if_there dissolved_around line w) (in_turn (if_there dissolved_around) ks) v e in
+    let a = first_part (step_if_there dissolved_around line w) (in_turn (step_if_there dissolved_around) ks) v e in
     lines_remain ks a.0 v (by_test a.0 (is_attached w.forest line) refl a.1) a.2 where
       by_test : (u : Working) (b : Bool) → is_attached w.forest line ≡ b → cond b (dissolved_around line w) (Ok w) ≡ Ok u → Remains ks u
       by_test u true there so = around_remains ks line w u r there so

@@ -33,7 +33,7 @@ use Rattle.lx_edit_laws.proofs.WrapTrees.{WasMoved}
 use Rattle.lx_blocks.specs.Blocks.{passes, is_at}
 use Rattle.lx_caret.proofs.Fit.{each_still, Fit}
 use Rattle.lx_caret.proofs.Moves.{stays_placed, stays_moved}
-use Rattle.lx_list.specs.Making.{changed, set_changed, change_step}
+use Rattle.lx_list.specs.Making.{element_fields_changed, set_changed, change_step}
 use Rattle.lx_list.specs.Nesting.{if_list, nested_in}
 use Rattle.lx_list.specs.Indenting.{taken_from, moved_between, moved_to_front}
 use Rattle.lx_list.proofs.Above.{list_above}
@@ -87,7 +87,7 @@ set_ahead k x w v r fit e = record {
 
 changed_by : (change : ElementFields → ElementFields) (k : ℕ) (o : Option Fields) (w v : Working) → Ahead w → Fit v → set_changed change k o w ≡ Ok v → Ahead v
 changed_by change k None w v r fit e = subst Ahead (was_same w v e) r
-changed_by change k (Some x) w v r fit e = set_ahead k (changed change x) w v r fit e
+changed_by change k (Some x) w v r fit e = set_ahead k (element_fields_changed change x) w v r fit e
 
 pub changed_ahead : (change : ElementFields → ElementFields) (k : ℕ) (w v : Working) → Ahead w → change_step change k w ≡ Ok v → Ahead v
 unfolding change_step

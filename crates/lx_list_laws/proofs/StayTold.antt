@@ -20,7 +20,7 @@ use Rattle.lx_caret.specs.Lying.{IsLying}
 use Rattle.lx_caret.proofs.Cleared.{range_lies, fit_of}
 use Rattle.lx_caret.proofs.Fit.{after_tells, each_both, each_still}
 use Rattle.lx_caret.proofs.Lies.{both}
-use Rattle.lx_list.specs.Lines.{if_there, each_line}
+use Rattle.lx_list.specs.Lines.{step_if_there, each_line}
 use Rattle.lx_list.specs.Dissolving.{outermost_above, dissolved_around, remove_list_step}
 use Rattle.lx_list.specs.Indenting.{indented, indent_step}
 use Rattle.lx_list_laws.specs.Staying.{goes_with_list, is_in_tree, is_in_list_around, lines_of_range, lines_in, LeavesFrom, SelectionsStay}
@@ -40,7 +40,7 @@ removed_from : (w v : Working) → IsReady w → IsHeld may_hold w.forest → Te
 unfolding remove_list_step each_line
 removed_from w v ready held short places e =
     let f : Forest = w.forest in
-    let a = after_tells (range_of w) (λ r. in_turn (if_there dissolved_around) (selected_lines f r) w) v e in
+    let a = after_tells (range_of w) (λ r. in_turn (step_if_there dissolved_around) (selected_lines f r) w) v e in
     let fit = fit_of w a.0 ready held short (range_lies w a.0 a.1.0) in
     (lines_remain (selected_lines f a.0) w v (record { fit = fit; places = places a.0 a.1.0 }) a.1.1).lying
 

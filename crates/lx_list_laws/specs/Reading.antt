@@ -23,7 +23,7 @@ pub record InlinesFirst (f : Forest) : Type 0 where
   pub each : (item : ℕ) → is_at is_item f item ≡ true → stand_first (is_at is_inline f) (children_of f item) ≡ true
 
 -- a draft hasn't failed, its next key and those above are free, and each node holds what it may
-pub record IsSound (w : Working) : Type 0 where
+pub record IsSoundDraft (w : Working) : Type 0 where
   pub ready : IsReady w
   pub held : IsHeld may_hold w.forest
 
@@ -35,12 +35,12 @@ ReadsAs w v = read_below v.forest 0 ≡ read_below w.forest 0
 -- item
 pub record ListsComeAndGo : Type 0 where
   -- lines that are made items read the same, whatever is selected, and whatever lists there are
-  pub made : (type : ListType) (w v : Working) → IsSound w → make_list_step type w ≡ Ok v → ReadsAs w v
+  pub made : (type : ListType) (w v : Working) → IsSoundDraft w → make_list_step type w ≡ Ok v → ReadsAs w v
   -- and so do lists that are made paragraphs, where inline children come first
-  pub removed : (w v : Working) → IsSound w → InlinesFirst w.forest → remove_list_step w ≡ Ok v → ReadsAs w v
+  pub removed : (w v : Working) → IsSoundDraft w → InlinesFirst w.forest → remove_list_step w ≡ Ok v → ReadsAs w v
   -- neither brings an inline child after a list
-  pub made_first : (type : ListType) (w v : Working) → IsSound w → InlinesFirst w.forest → make_list_step type w ≡ Ok v → InlinesFirst v.forest
-  pub removed_first : (w v : Working) → IsSound w → InlinesFirst w.forest → remove_list_step w ≡ Ok v → InlinesFirst v.forest
+  pub made_first : (type : ListType) (w v : Working) → IsSoundDraft w → InlinesFirst w.forest → make_list_step type w ≡ Ok v → InlinesFirst v.forest
+  pub removed_first : (w v : Working) → IsSoundDraft w → InlinesFirst w.forest → remove_list_step w ≡ Ok v → InlinesFirst v.forest
   -- so a list that is made and removed again reads the same, wherever the selection is by then
-  pub again : (type : ListType) (w v u : Working) (s : Selection) → IsSound w → InlinesFirst w.forest → make_list_step type w ≡ Ok v
+  pub again : (type : ListType) (w v u : Working) (s : Selection) → IsSoundDraft w → InlinesFirst w.forest → make_list_step type w ≡ Ok v
       → remove_list_step (record v { selection = s }) ≡ Ok u → ReadsAs w u

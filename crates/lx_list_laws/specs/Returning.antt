@@ -39,7 +39,7 @@ pub record MadeAndRemoved (type : ListType) (p block : ℕ) (w v u : Working) : 
 
 -- a new paragraph n stands in the place of a block below p, with its children in their order; every other node has the
 -- fields and the children that it had
-pub record StandsFor (f g : Forest) (p block n : ℕ) : Type 0 where
+pub record StandsInPlaceOf (f g : Forest) (p block n : ℕ) : Type 0 where
   pub new : has n f ≡ false
   pub paragraph : label_of g n ≡ Some (record { key = n; kind = Paragraph; fields = plain_element })
   pub place : children_of g p ≡ in_place_of block (n ∷ []) (children_of f p)
@@ -51,7 +51,7 @@ pub record StandsFor (f g : Forest) (p block n : ℕ) : Type 0 where
 pub record BlocksComeBack : Type 0 where
   -- with its children, and nothing else changes; points on the block go to the start of the paragraph, and all others stay
   pub back : (type : ListType) (p block : ℕ) (w v u : Working) → MadeAndRemoved type p block w v u
-      → (n : ℕ) × StandsFor w.forest u.forest p block n × (u.selection ≡ each_point (moved_to block (element_point n 0)) w.selection)
+      → (n : ℕ) × StandsInPlaceOf w.forest u.forest p block n × (u.selection ≡ each_point (moved_to block (element_point n 0)) w.selection)
   -- where no point is on the block itself, all are where they were between the two commands, too
   pub between : (type : ListType) (p block : ℕ) (w v u : Working) → MadeAndRemoved type p block w v u → has_point_on block w.selection ≡ false
       → v.selection ≡ w.selection

@@ -2,7 +2,7 @@
 use Rattle.std.specs.Prelude.{◌≡◌, ◌≤◌, ◌<◌, ◌⊎◌, ◌++◌, ℕ, List, [], length, take, drop, Option, None, Some}
 use Rattle.lx_node.specs.Limits.{last_u32}
 use Rattle.lx_editor.specs.Editor.{Editor}
-use Rattle.lx_editor.specs.Follows.{Answers, IsLeftWithout}
+use Rattle.lx_editor.specs.Follows.{AnswersLine, IsLeftWithout}
 use Rattle.lx_live.specs.declared.editor.LiveEditor.{LiveEditor}
 use Rattle.lx_live.specs.declared.editor.CallEnd.{CallEnd}
 use Rattle.lx_live.specs.declared.editor.CallEnd.TheVariants.{Done, Closed, Memory, TooLong, Spent}
@@ -49,7 +49,7 @@ pub record CanAnswer (live : LiveEditor) (line : List ℕ) : Type 0 where
 -- each other end nothing is put, and the reply before is kept; only a want of memory may change the editor, as the line says.
 abbrev pub IsCallOn : CallEnd → LiveEditor → LiveEditor → List ℕ → List ℕ → List ℕ → ℕ → Type 0
 IsCallOn Done old new line before after size =
-    CanAnswer old line × Answers old.editor line new.reply.items new.editor × IsPiecePut new.reply.items 0 before after size
+    CanAnswer old line × AnswersLine old.editor line new.reply.items new.editor × IsPiecePut new.reply.items 0 before after size
 IsCallOn Closed old new line before after size = ⊥
 IsCallOn Memory old new line before after size =
     CanAnswer old line × IsLeftWithout old.editor line new.editor × (new.reply ≡ old.reply) × IsNothingPut before after size

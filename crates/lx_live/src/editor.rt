@@ -2,7 +2,7 @@
 ghost use Rattle.std.specs.Prelude.{◌≡◌, ◌<◌, [], IfOk, OnOk, OnErr};
 ghost use Rattle.lx_node.specs.Limits.{last_u32};
 ghost use Rattle.lx_editor.specs.Editor.{new_editor};
-ghost use Rattle.lx_editor.specs.Follows.{Answers, IsLeftWithout};
+ghost use Rattle.lx_editor.specs.Follows.{AnswersLine, IsLeftWithout};
 ghost use Rattle.lx_live.specs.Live.{number_of_end, IsCallOn, IsPiecePut};
 
 use lx_editor::{Editor, answer_line};
@@ -70,7 +70,7 @@ impl LiveEditor {
     /// Answers a line, and keeps the reply.
     fn reply_to(&mut self, alloc: Global, line: &[u8]) -> Result<(), NoMemory>
         requires { self.old.editor.commits < last_u32 }
-        ensures answers { OnOk result (Answers self.old.editor line.now self.new.reply.items self.new.editor) }
+        ensures answers { OnOk result (AnswersLine self.old.editor line.now self.new.reply.items self.new.editor) }
         ensures unchanged { OnErr result (IsLeftWithout self.old.editor line.now self.new.editor) }
         ensures kept { OnErr result (self.new.reply ≡ self.old.reply) }
     {

@@ -11,7 +11,7 @@ use Rattle.lx_reconcile.specs.Told.{Told}
 use Rattle.lx_script.specs.Grammar.{IsJson, Makes, TellsNoJson}
 use Rattle.lx_script.proofs.Reading.{tells_of_json, tells_of_no_json}
 use Rattle.lx_editor.specs.Editor.{Editor}
-use Rattle.lx_editor.specs.Follows.{Answers, RepliesToLine}
+use Rattle.lx_editor.specs.Follows.{AnswersLine, RepliesToLine}
 use Rattle.lx_hub.specs.Hub.{Hub, effects, published}
 use Rattle.lx_hub.proofs.Following.{leads_there}
 use Rattle.lx_serving.specs.Asked.{IsOther, sole_member}
@@ -58,21 +58,21 @@ followed_still e f h g same still = record {
 -- a line that a value asks for, as bytes of that value
 pub answers_line : (old new : Editor) (bytes reply : List ℕ) (value : Data) (line : Line) → IsJson bytes value → Makes value (Ok line)
     → RepliesToLine old line reply new
-    → Answers old bytes reply new
-unfolding Answers
+    → AnswersLine old bytes reply new
+unfolding AnswersLine
 answers_line old new bytes reply value line is made replies = (Ok line, tells_of_json bytes value (Ok line) is made, replies)
 
 -- a value that asks for nothing
 pub answers_refused : (old new : Editor) (bytes text : List ℕ) (value : Data) (fault : Fault) → IsJson bytes value → Makes value (Err fault)
-    → IsReplyToFault fault text → new ≡ old → Answers old bytes text new
-unfolding Answers
+    → IsReplyToFault fault text → new ≡ old → AnswersLine old bytes text new
+unfolding AnswersLine
 answers_refused old new bytes text value (Cause cause) is made told same = (Err cause, tells_of_json bytes value (Err (Cause cause)) is made, (told, same))
 answers_refused old new bytes text value Memory is made told same = absurd told
 
 -- bytes that are no JSON
 pub answers_no_json : (old new : Editor) (bytes text : List ℕ) (fault : Fault) → TellsNoJson bytes fault → IsReplyToFault fault text → new ≡ old
-    → Answers old bytes text new
-unfolding Answers
+    → AnswersLine old bytes text new
+unfolding AnswersLine
 answers_no_json old new bytes text (Cause cause) refused told same = (Err cause, tells_of_no_json bytes (Cause cause) refused, (told, same))
 answers_no_json old new bytes text Memory refused told same = absurd told
 

@@ -23,12 +23,12 @@ use Rattle.lx_editor.specs.declared.outcome.Outcome.{Outcome}
 use Rattle.lx_editor.specs.declared.outcome.Outcome.TheVariants.{Committed, Gathered, Refused, Idle}
 use Rattle.lx_editor.specs.Editor.{Editor}
 use Rattle.lx_editor.specs.Gathering.{begun, gathered_by, pending_of, recording, with_nothing_pending, IsGatheredOf, IsDeferred}
-use Rattle.lx_editor.specs.Updated.{Left, Settled, left_by, rested_by, IsTaken, IsMadeOf, IsUpdated, IsFlushed}
+use Rattle.lx_editor.specs.Updated.{Left, Settled, left_by, rested_by, IsTaken, IsMadeOf, IsUpdatedBy, IsFlushed}
 use Rattle.lx_editor.specs.Registered.{left_by_rule, merging, unless_full, IsRegistered}
 use Rattle.lx_editor.specs.Loaded.{left_by_load, IsLoaded}
 use Rattle.lx_editor.specs.Turned.{IsTurnedBy}
 use Rattle.lx_editor.specs.Dispatched.{answer_to, IsMadeOfAnswer, IsDispatched, IsListening}
-use Rattle.lx_editor.specs.Follows.{at_moment, RepliesTo, RepliesToLine, Replies, Answers}
+use Rattle.lx_editor.specs.Follows.{at_moment, RepliesTo, RepliesToLine, Replies, AnswersLine}
 use Rattle.lx_hub.specs.Hub.{Hub}
 use Rattle.lx_serving.specs.Served.{AreLevel}
 use Rattle.lx_serving.specs.Passing.{MayFollow}
@@ -128,7 +128,7 @@ moves_listening old listener (Err cause) new p = stays old new p.2
 
 moves_form : (old : Editor) (tags : Tags) (form : Form) (bytes : List ℕ) (new : Editor) → RepliesTo old tags form bytes new
     → Moves old.commits old.tree old.view old.last new
-unfolding RepliesTo IsUpdated IsFlushed IsDeferred IsDispatched IsRegistered IsLoaded
+unfolding RepliesTo IsUpdatedBy IsFlushed IsDeferred IsDispatched IsRegistered IsLoaded
 moves_form old tags (Update script) bytes new p =
     moves_made (left_by old.rules old.listeners (steps_of script) (begun old)) (with_nothing_pending old) (both_tags (pending_of old).tags tags) old.moment p.0
     new p.1
@@ -163,8 +163,8 @@ moves_read : (old : Editor) (read : Result Line Cause) (bytes : List ℕ) (new :
 moves_read old (Ok line) bytes new p = moves_line old line bytes new p
 moves_read old (Err cause) bytes new p = stays old new p.1
 
-pub moves_answers : (old : Editor) (line bytes : List ℕ) (new : Editor) → Answers old line bytes new → Moves old.commits old.tree old.view old.last new
-unfolding Answers
+pub moves_answers : (old : Editor) (line bytes : List ℕ) (new : Editor) → AnswersLine old line bytes new → Moves old.commits old.tree old.view old.last new
+unfolding AnswersLine
 moves_answers old line bytes new p = moves_read old p.0 bytes new p.2
 
 -- ---- a hub that was level with the editor

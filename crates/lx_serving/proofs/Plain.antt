@@ -4,7 +4,7 @@ use Rattle.lx_serving.specs.declared.setup.Setup.{Setup}
 use Rattle.lx_serving.specs.declared.setup.Beside.{Beside}
 use Rattle.lx_serving.specs.declared.setup.Beside.TheVariants as beside
 use Rattle.lx_editor.specs.Editor.{Editor}
-use Rattle.lx_editor.specs.Follows.{Answers, Follows}
+use Rattle.lx_editor.specs.Follows.{AnswersLine, Follows}
 use Rattle.lx_serving.specs.declared.layer.Layer.{Layer}
 use Rattle.lx_serving.specs.declared.layer.Layer.TheVariants as layer
 use Rattle.lx_serving.specs.Served.{Served, with_nothing, new_layer, new_served, AnswersIn, by_editor, about_views, beside_views, about_outline, beside_outline, FollowsIn, FollowsInTo, made_in, spent}
@@ -15,7 +15,7 @@ use Rattle.lx_serving.specs.Served.{Served, with_nothing, new_layer, new_served,
 record IsPlainly (old : Editor) (line bytes : List ℕ) (new : Served) : Type 0 where
   editor : Editor
   made : new ≡ with_nothing editor
-  answers : Answers old line bytes editor
+  answers : AnswersLine old line bytes editor
 
 plainly : (s t : Served) (line bytes : List ℕ) → AnswersIn s line bytes t → s.layer ≡ layer.Plain → IsPlainly s.editor line bytes t
 plainly _ _ _ _ (by_editor old new line bytes answers) is = record { editor = new; made = refl; answers = answers }
@@ -37,7 +37,7 @@ follows_plain e lines bytes p = follows_to e lines bytes p.0 p.1
 abbrev pub served : Editor → Layer → Served
 served e l = record { editor = e; layer = l }
 
-pub answered_plain : (old new : Editor) (l : Layer) (line bytes : List ℕ) → l ≡ layer.Plain → Answers old line bytes new
+pub answered_plain : (old new : Editor) (l : Layer) (line bytes : List ℕ) → l ≡ layer.Plain → AnswersLine old line bytes new
     → AnswersIn (served old l) line bytes (served new l)
 answered_plain old new l line bytes is answers =
     subst (λ (k : Layer). AnswersIn (served old k) line bytes (served new k)) (sym is) (by_editor old new line bytes answers)

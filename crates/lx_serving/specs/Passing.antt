@@ -10,7 +10,7 @@ use Rattle.lx_script.specs.Grammar.{IsJson}
 use Rattle.lx_script.specs.Replies.{reply_text}
 use Rattle.lx_hub.specs.Hub.{Hub}
 use Rattle.lx_editor.specs.Editor.{Editor}
-use Rattle.lx_editor.specs.Follows.{Answers}
+use Rattle.lx_editor.specs.Follows.{AnswersLine}
 use Rattle.lx_serving.specs.Asked.{sole_member}
 use Rattle.lx_serving.specs.Replies.{views_text, hub_after_line}
 use Rattle.lx_serving.specs.Outlining.{OutlinedView, outline_text}
@@ -36,7 +36,7 @@ pub record MayFollow (before : ℕ) (e : Editor) (h : Hub) : Type 0 where
 -- what the two may answer to a value, by that of its only member where it has the hub's name
 abbrev pub AnswersMember : Option Data → Data → Editor → Hub → List ℕ → Editor → Hub → Type 0
 AnswersMember (Some asked) value old h bytes new g = (bytes ≡ views_text asked h) × (new ≡ old) × (g ≡ hub_after_line asked h)
-AnswersMember None value old h bytes new g = ((line : List ℕ) → IsJson line value → Answers old line bytes new) × IsFollowedBy old new h g
+AnswersMember None value old h bytes new g = ((line : List ℕ) → IsJson line value → AnswersLine old line bytes new) × IsFollowedBy old new h g
 
 -- what an editor and a hub may answer to a value
 abbrev pub AnswersValue : Data → Editor → Hub → List ℕ → Editor → Hub → Type 0
@@ -47,7 +47,7 @@ AnswersValue value old h bytes new g = AnswersMember (sole_member (codes "hub") 
 -- what the two may answer to a value, by that of its only member where it has the outline's name
 abbrev pub NotesMember : Option Data → Data → Editor → OutlinedView → List ℕ → Editor → OutlinedView → Type 0
 NotesMember (Some asked) value old o bytes new p = (bytes ≡ outline_text asked old.tree o.events) × (new ≡ old) × (p ≡ o)
-NotesMember None value old o bytes new p = ((line : List ℕ) → IsJson line value → Answers old line bytes new) × IsNotedBy old new o p
+NotesMember None value old o bytes new p = ((line : List ℕ) → IsJson line value → AnswersLine old line bytes new) × IsNotedBy old new o p
 
 -- what an editor and an outline may answer to a value
 abbrev pub NotesValue : Data → Editor → OutlinedView → List ℕ → Editor → OutlinedView → Type 0

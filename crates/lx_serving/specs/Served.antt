@@ -4,7 +4,7 @@ use Rattle.serde_json.specs.Data.{Data}
 use Rattle.lx_host.specs.declared.op.Op.{Op}
 use Rattle.lx_reconcile.specs.Told.{Told}
 use Rattle.lx_editor.specs.Editor.{Editor, new_editor}
-use Rattle.lx_editor.specs.Follows.{Answers, IsLeftWithout}
+use Rattle.lx_editor.specs.Follows.{AnswersLine, IsLeftWithout}
 use Rattle.lx_hub.specs.Hub.{Hub, new_hub, published}
 use Rattle.lx_outline.specs.Events.{AreEvents}
 use Rattle.lx_outline.specs.Outline.{IsOutlineOf}
@@ -82,14 +82,14 @@ pub record IsNotedBy (old new : Editor) (o p : OutlinedView) : Type 0 where
 -- of the layer's own has the layer's reply and leaves the editor, its time too; and any other line is answered as the
 -- editor may.
 pub data AnswersIn : Served → List ℕ → List ℕ → Served → Type 0 where
-  by_editor : (old new : Editor) (line bytes : List ℕ) → Answers old line bytes new → AnswersIn (with_nothing old) line bytes (with_nothing new)
+  by_editor : (old new : Editor) (line bytes : List ℕ) → AnswersLine old line bytes new → AnswersIn (with_nothing old) line bytes (with_nothing new)
   about_views : (e : Editor) (h : Hub) (line : List ℕ) (asked : Data) → IsOwn (codes "hub") line asked
       → AnswersIn (with_hub e h) line (views_text asked h) (with_hub e (hub_after_line asked h))
-  beside_views : (old new : Editor) (h g : Hub) (line bytes : List ℕ) → IsOther (codes "hub") line → Answers old line bytes new
+  beside_views : (old new : Editor) (h g : Hub) (line bytes : List ℕ) → IsOther (codes "hub") line → AnswersLine old line bytes new
       → IsFollowedBy old new h g → AnswersIn (with_hub old h) line bytes (with_hub new g)
   about_outline : (e : Editor) (o : OutlinedView) (line : List ℕ) (asked : Data) → IsOwn (codes "ask") line asked
       → AnswersIn (with_outline e o) line (outline_text asked e.tree o.events) (with_outline e o)
-  beside_outline : (old new : Editor) (o p : OutlinedView) (line bytes : List ℕ) → IsOther (codes "ask") line → Answers old line bytes new
+  beside_outline : (old new : Editor) (o p : OutlinedView) (line bytes : List ℕ) → IsOther (codes "ask") line → AnswersLine old line bytes new
       → IsNotedBy old new o p → AnswersIn (with_outline old o) line bytes (with_outline new p)
 
 -- These bytes are answers to the lines, each with a line end, one after another.

@@ -6,7 +6,7 @@ ghost use Rattle.lx_node.specs.Limits.{last_u32};
 ghost use Rattle.lx_step.specs.Sound.{IsSoundForm};
 ghost use Rattle.lx_script.specs.Grammar.{IsJson};
 ghost use Rattle.lx_outline.specs.Outline.{IsOutlineOf};
-ghost use Rattle.lx_editor.specs.Follows.{Answers, RepliesToLine};
+ghost use Rattle.lx_editor.specs.Follows.{AnswersLine, RepliesToLine};
 ghost use Rattle.lx_serving.specs.Outlining.{IsWithin};
 ghost use Rattle.lx_serving.specs.Served.{AnswersIn, IsNotedBy, with_outline};
 ghost use Rattle.lx_serving.specs.Passing.{NotesValue};
@@ -74,7 +74,7 @@ fn pass_on(
 ) -> Result<Vec<u8>, NoMemory>
     requires outline { IsOutlineOf outlined.old.outline editor.old.tree }
     requires room { editor.old.commits < last_u32 }
-    ensures answers { IfOk result (λ reply. (line : List ℕ) → IsJson line (data_of value) → Answers editor.old line reply.items editor.new) }
+    ensures answers { IfOk result (λ reply. (line : List ℕ) → IsJson line (data_of value) → AnswersLine editor.old line reply.items editor.new) }
     ensures noted { OnOk result (IsNotedBy editor.old editor.new outlined.old outlined.new) }
     ensures commits { editor.new.commits ≤ editor.old.commits + 1 }
 {

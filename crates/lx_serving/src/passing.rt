@@ -6,7 +6,7 @@ ghost use Rattle.lx_node.specs.Limits.{last_u32};
 ghost use Rattle.lx_step.specs.Sound.{IsSoundForm};
 ghost use Rattle.lx_script.specs.Grammar.{IsJson};
 ghost use Rattle.lx_hub.specs.Hub.{published};
-ghost use Rattle.lx_editor.specs.Follows.{Answers, RepliesToLine};
+ghost use Rattle.lx_editor.specs.Follows.{AnswersLine, RepliesToLine};
 ghost use Rattle.lx_serving.specs.Served.{AnswersIn, AreLevel, IsFollowedBy, ops_told, with_hub};
 ghost use Rattle.lx_serving.specs.Passing.{AnswersValue, IsAhead, MayFollow};
 
@@ -74,7 +74,7 @@ fn pass_on(
 ) -> Result<Vec<u8>, NoMemory>
     requires level { AreLevel editor.old hub.old }
     requires room { editor.old.commits < last_u32 }
-    ensures answers { IfOk result (λ reply. (line : List ℕ) → IsJson line (data_of value) → Answers editor.old line reply.items editor.new) }
+    ensures answers { IfOk result (λ reply. (line : List ℕ) → IsJson line (data_of value) → AnswersLine editor.old line reply.items editor.new) }
     ensures followed { OnOk result (IsFollowedBy editor.old editor.new hub.old hub.new) }
     ensures level { OnOk result (AreLevel editor.new hub.new) }
     ensures commits { editor.new.commits ≤ editor.old.commits + 1 }

@@ -26,7 +26,7 @@ use Rattle.lx_list.proofs.Paths.{make_list_path, remove_list_path, indent_path, 
 use Rattle.lx_table.specs.Growing.{insert_row_step, insert_column_step}
 use Rattle.lx_table.specs.Making.{insert_table_step}
 use Rattle.lx_table.proofs.Paths.{insert_table_path, insert_row_path, insert_column_path, delete_row_path, delete_column_path, merge_cells_path, unmerge_path}
-use Rattle.lx_update.specs.Commands.{with_none, text_sent, word_sent, with_sent, with_size, ways, formats, list_types, sides, ended_at, paragraph_step, plain_step, command_step}
+use Rattle.lx_update.specs.Commands.{with_none, text_sent, word_sent, with_sent, with_size, ways, formats, list_type_words, sides, ended_at, paragraph_step, plain_step, command_step}
 use Rattle.lx_update.specs.Scripts.{on_draft}
 use Rattle.lx_update.proofs.Paths.{IsScriptPath, Reaches, looked, on_draft_path}
 
@@ -83,7 +83,7 @@ module _ {D : Working → Type 0} {R : Working → Working → Type 0} (scripts 
   command_path (Caret DeleteWord) sent = with_sent_path (word_sent ways sent) delete_word_step (delete_word_path scripts.path)
   command_path (Caret FormatText) sent = with_sent_path (word_sent formats sent) format_text_step (format_text_path scripts.path)
   command_path (Caret Paste) sent = with_sent_path (text_sent sent) paste_step (paste_path scripts.path)
-  command_path (list MakeList) sent = with_sent_path (word_sent list_types sent) make_list_step (make_list_path scripts.path)
+  command_path (list MakeList) sent = with_sent_path (word_sent list_type_words sent) make_list_step (make_list_path scripts.path)
   command_path (Table InsertTable) sent = with_size_path insert_table_step (insert_table_path scripts.path) sent
   command_path (Table InsertRow) sent = with_sent_path (word_sent sides sent) insert_row_step (insert_row_path scripts.path)
   command_path (Table InsertColumn) sent = with_sent_path (word_sent sides sent) insert_column_step (insert_column_path scripts.path)

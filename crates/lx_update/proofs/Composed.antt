@@ -8,7 +8,7 @@ use Rattle.lx_node.specs.declared.kind.Kind.TheVariants.{Paragraph, Text}
 use Rattle.lx_node.specs.declared.fields.Fields.{Fields}
 use Rattle.lx_node.specs.Plain.{plain_element, plain_text}
 use Rattle.lx_draft.specs.Working.{Working}
-use Rattle.lx_update.specs.Appending.{filled, text_step}
+use Rattle.lx_update.specs.Appending.{text_put, text_step}
 
 -- ---- fields
 
@@ -35,6 +35,6 @@ some_chars (b ∷ bs) utf8 some none =
     absurd (grind (arith, nothing))
 
 -- a text that isn't empty is put in
-pub filled_with : (text : List ℕ) (key : ℕ) (w : Working) → text ≢ [] → filled key text w ≡ text_step key text w
+pub filled_with : (text : List ℕ) (key : ℕ) (w : Working) → text ≢ [] → text_put key text w ≡ text_step key text w
 filled_with [] key w some = absurd (some refl)
 filled_with (c ∷ text) key w some = refl

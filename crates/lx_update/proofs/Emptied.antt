@@ -5,7 +5,7 @@ use Rattle.lx_step.specs.declared.command.Payload.{Payload}
 use Rattle.lx_step.specs.declared.listener.Listener.{Listener}
 use Rattle.lx_step.specs.declared.step.Step.{Step}
 use Rattle.lx_draft.specs.Faults.{after}
-use Rattle.lx_update.specs.Running.{Running, Queued, running, queued_first, steps_in, dispatched, most_nested, in_turn, emptied}
+use Rattle.lx_update.specs.Running.{Running, Queued, running, queued_first, steps_in, dispatched, most_nested, queue_in_turn, emptied}
 use Rattle.lx_update.proofs.Paced.{AnyRunning, IsPaced, paced}
 use Rattle.lx_update.proofs.Stays.{Makes, makes_then, steps_keep, dispatched_keeps}
 
@@ -22,7 +22,7 @@ emptied_step most turn ls n steps sent within = ap (λ k. emptied k ls (queued_f
 pub emptied_done : (more : ℕ) (ls : List Listener) (m : Running) → m.queue ≡ [] → emptied more ls m ≡ Ok m
 unfolding emptied
 emptied_done zero ls m is = refl
-emptied_done (suc more) ls m is = ap (λ queue. in_turn (steps_in (dispatched most_nested ls)) (emptied more ls) queue m) is
+emptied_done (suc more) ls m is = ap (λ queue. queue_in_turn (steps_in (dispatched most_nested ls)) (emptied more ls) queue m) is
 
 no_turn : (turn most : ℕ) → most ≤ turn → most - turn ≡ 0
 no_turn turn most h = omega (arith, h)
@@ -49,7 +49,7 @@ pub record IsEnough (more : ℕ) (m : Running) : Type 0 where
   pub turns : length m.queue + most_counts ≤ more + m.script.draft.counted
 
 turn_ends : (more : ℕ) (ls : List Listener) (m : Running) → IsEnough (suc more) m → ((n : Running) → IsEnough more n → Makes IsDone (emptied more ls n))
-    → (queue : List Queued) → m.queue ≡ queue → Makes IsDone (in_turn (steps_in (dispatched most_nested ls)) (emptied more ls) queue m)
+    → (queue : List Queued) → m.queue ≡ queue → Makes IsDone (queue_in_turn (steps_in (dispatched most_nested ls)) (emptied more ls) queue m)
 turn_ends more ls m h next [] e = e
 turn_ends more ls m h next (q ∷ rest) e =
     makes_then (IsPaced (running m.script rest)) IsDone (steps_in (dispatched most_nested ls) q.sent q.steps (running m.script rest)) (emptied more ls)

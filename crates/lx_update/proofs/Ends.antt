@@ -13,9 +13,9 @@ use Rattle.lx_draft.specs.Working.{Working}
 use Rattle.lx_draft.specs.Faults.{after}
 use Rattle.lx_update.specs.declared.ending.Ending.{Ending}
 use Rattle.lx_update.specs.declared.ending.Ending.TheVariants.{Left, Turned}
-use Rattle.lx_update.specs.Lines.{Ended, ran, turned, at_first, queue_run, turn_of, is_untouched, reached, unless_stopped, most_inside, ended_by, dispatch_begun, dispatch_ended, dispatch_run, answer_drafted, IsEndingCovered, IsAnswerEmptied}
-use Rattle.lx_update.specs.Refusals.{Refused, at_step, and_then}
-use Rattle.lx_update.specs.Running.{Running, take_count, is_nothing, offered, dispatched, most_nested}
+use Rattle.lx_update.specs.Lines.{Ended, ran, turned, at_first, queue_run, turn_of, is_untouched, reached, unless_stopped, most_inside, command_ended, dispatch_begun, dispatch_ended, dispatch_run, answer_drafted, IsEndingCovered, IsAnswerEmptied}
+use Rattle.lx_update.specs.Refusals.{Refused, at_step, refused_or}
+use Rattle.lx_update.specs.Running.{Running, take_count, sends_nothing, offered, dispatched, most_nested}
 use Rattle.lx_update.proofs.Covered.{IsReadyRunning, AreCoveredRunning, covered}
 use Rattle.lx_update.proofs.Made.{makes_step, makes_and, queue_covered, queue_ends}
 use Rattle.lx_update.proofs.Paced.{AnyRunning, IsPaced, paced}
@@ -44,7 +44,7 @@ stopped P next n true p q = p
 stopped P next n false p q = q
 
 ended_keeps : (D : Running → Type 0) (R : Running → Running → Type 0) → IsKept D R → (way : Option Turn) (ls : List Listener) (c : Command) (m : Running) → D m
-    → Makes (EndsAs (R m)) (ended_by way ls c m)
+    → Makes (EndsAs (R m)) (command_ended way ls c m)
 ended_keeps D R kept None ls c m ready =
     makes_then (λ r. R m r.0) (EndsAs (R m)) (dispatched most_nested ls c.name c.payload m) (λ r. Ok (ran r.0 r.1))
     (dispatched_keeps D R kept most_nested ls c.name c.payload m ready) (λ r h. h)
@@ -54,14 +54,14 @@ ended_keeps D R kept (Some turn) ls c m ready =
     (offered_keep D R kept (dispatched most_inside ls) (dispatched_keeps D R kept most_inside ls) c.payload (above c.name ls) m ready)
     (λ r h. stopped (R m) next r.0 r.1 h
     (makes_from (EndsAs (R m)) (take_count r.0) (reached turn c.payload m.script.draft.selection) (λ n e.
-    reached_leaves (R m) (is_nothing c.payload) (is_untouched m.script.draft.selection n) turn)))
+    reached_leaves (R m) (sends_nothing c.payload) (is_untouched m.script.draft.selection n) turn)))
 
 begun_keeps : (D : Running → Type 0) (R : Running → Running → Type 0) → IsKept D R → (ls : List Listener) (c : Command) (m : Running) → D m
     → Makes (EndsAs (R m)) (dispatch_begun ls c m)
 begun_keeps D R kept ls c m ready =
-    makes_from (EndsAs (R m)) (take_count m) (ended_by (turn_of (built_in c.name)) ls c) (λ n e.
+    makes_from (EndsAs (R m)) (take_count m) (command_ended (turn_of (built_in c.name)) ls c) (λ n e.
     let h : R m n = kept.counted m n ready e in
-    makes_on (EndsAs (R n)) (EndsAs (R m)) (ended_by (turn_of (built_in c.name)) ls c n)
+    makes_on (EndsAs (R n)) (EndsAs (R m)) (command_ended (turn_of (built_in c.name)) ls c n)
     (ended_keeps D R kept (turn_of (built_in c.name)) ls c n (kept.ready m n h))
     (λ ended i. ends_on (R n) (R m) ended (λ o j. kept.on m n o h j) i))
 
@@ -112,15 +112,15 @@ dispatch_ends ls c w few =
 
 dispatch_from : (ls : List Listener) (c : Command) (w : Working) (first : Running) (begun : Result Ended Refused) → first ≡ at_first w
     → at_step 0 (dispatch_begun ls c first) ≡ begun
-    → dispatch_run ls c w ≡ and_then begun (dispatch_ended ls)
+    → dispatch_run ls c w ≡ refused_or begun (dispatch_ended ls)
 unfolding dispatch_run
 dispatch_from ls c w first begun is ended =
-    ap (λ x. and_then (at_step 0 (dispatch_begun ls c x)) (dispatch_ended ls)) (sym is) ∙ ap (λ r. and_then r (dispatch_ended ls)) ended
+    ap (λ x. refused_or (at_step 0 (dispatch_begun ls c x)) (dispatch_ended ls)) (sym is) ∙ ap (λ r. refused_or r (dispatch_ended ls)) ended
 
 pub dispatch_comes_to : (ls : List Listener) (c : Command) (w : Working) (first m n : Running) (handled : Bool) → first ≡ at_first w
     → at_step 0 (dispatch_begun ls c first) ≡ Ok (ran m handled) → queue_run ls m ≡ Ok n → dispatch_run ls c w ≡ Ok (ran n handled)
 dispatch_comes_to ls c w first m n handled is ended rest =
-    dispatch_from ls c w first (Ok (ran m handled)) is ended ∙ ap (λ r. and_then r (λ o. Ok (ran o handled))) rest
+    dispatch_from ls c w first (Ok (ran m handled)) is ended ∙ ap (λ r. refused_or r (λ o. Ok (ran o handled))) rest
 
 pub dispatch_refused_by : (ls : List Listener) (c : Command) (w : Working) (first : Running) (refused : Refused) → first ≡ at_first w
     → at_step 0 (dispatch_begun ls c first) ≡ Err refused → dispatch_run ls c w ≡ Err refused
@@ -129,4 +129,4 @@ dispatch_refused_by ls c w first refused is ended = dispatch_from ls c w first (
 pub dispatch_refused_behind : (ls : List Listener) (c : Command) (w : Working) (first m : Running) (handled : Bool) (refused : Refused) → first ≡ at_first w
     → at_step 0 (dispatch_begun ls c first) ≡ Ok (ran m handled) → queue_run ls m ≡ Err refused → dispatch_run ls c w ≡ Err refused
 dispatch_refused_behind ls c w first m handled refused is ended rest =
-    dispatch_from ls c w first (Ok (ran m handled)) is ended ∙ ap (λ r. and_then r (λ o. Ok (ran o handled))) rest
+    dispatch_from ls c w first (Ok (ran m handled)) is ended ∙ ap (λ r. refused_or r (λ o. Ok (ran o handled))) rest

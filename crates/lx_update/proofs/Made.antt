@@ -10,8 +10,8 @@ use Rattle.lx_draft.specs.Working.{Working}
 use Rattle.lx_draft.specs.Steps.{count_step}
 use Rattle.lx_update.specs.declared.refusal.Refusal.{Refusal}
 use Rattle.lx_update.specs.declared.refusal.Refusal.TheVariants as refusal
-use Rattle.lx_update.specs.Lines.{at_first, script_from, queue_run, steps_run, deferred_run, drafted, IsEmptied}
-use Rattle.lx_update.specs.Refusals.{Refused, at_step, at_none, and_then, TellsRefusal}
+use Rattle.lx_update.specs.Lines.{at_first, script_from, queue_run, steps_run, deferred_run, left_draft, IsEmptied}
+use Rattle.lx_update.specs.Refusals.{Refused, at_step, at_none, refused_or, TellsRefusal}
 use Rattle.lx_update.specs.Running.{Running, step_in, dispatched, most_nested, emptied}
 use Rattle.lx_update.proofs.Covered.{IsReadyRunning, AreCoveredRunning, covered, covered_queue}
 use Rattle.lx_update.proofs.Emptied.{IsEnough, is_emptied}
@@ -21,12 +21,12 @@ use Rattle.lx_update.proofs.Stays.{Makes, makes_on, IsKept, IsOfScripts, step_ke
 -- ---- what stays
 
 pub makes_step : {A B : Type 0} (P : A → Type 0) (Q : B → Type 0) (index : ℕ) (first : Result A Cause) (next : A → Result B Refused) → Makes P first
-    → ((a : A) → P a → Makes Q (next a)) → Makes Q (and_then (at_step index first) next)
+    → ((a : A) → P a → Makes Q (next a)) → Makes Q (refused_or (at_step index first) next)
 makes_step P Q index (Ok a) next p each = each a p
 makes_step P Q index (Err cause) next p each = tt
 
 pub makes_and : {A B : Type 0} (P : A → Type 0) (Q : B → Type 0) (first : Result A Refused) (next : A → Result B Refused) → Makes P first
-    → ((a : A) → P a → Makes Q (next a)) → Makes Q (and_then first next)
+    → ((a : A) → P a → Makes Q (next a)) → Makes Q (refused_or first next)
 makes_and P Q (Ok a) next p each = each a p
 makes_and P Q (Err refused) next p each = tt
 
@@ -62,17 +62,17 @@ run_keeps D R kept free ls steps w ready =
 pub queue_covered : (ls : List Listener) (m n : Running) → AreCoveredRunning m n → Makes (AreCoveredRunning m) (queue_run ls n)
 queue_covered ls m n c = queue_keeps IsReadyRunning AreCoveredRunning covered covered_queue ls m n c
 
-drafted_so : (P : Working → Type 0) (r : Result Running Refused) (left : Working) → Makes (λ m. P m.script.draft) r → drafted r ≡ Ok left → P left
+drafted_so : (P : Working → Type 0) (r : Result Running Refused) (left : Working) → Makes (λ m. P m.script.draft) r → left_draft r ≡ Ok left → P left
 drafted_so P (Ok m) left p e = let is : m.script.draft ≡ left = cc in subst P is p
 drafted_so P (Err refused) left p e = absurd (cc)
 
-pub steps_told : (ls : List Listener) (steps : List Step) (w left : Working) → drafted (steps_run ls steps w) ≡ Ok left → IsReady w → AreCovered w left
+pub steps_told : (ls : List Listener) (steps : List Step) (w left : Working) → left_draft (steps_run ls steps w) ≡ Ok left → IsReady w → AreCovered w left
 steps_told ls steps w left e ready =
     drafted_so (AreCovered w) (steps_run ls steps w) left (run_keeps IsReadyRunning AreCoveredRunning covered covered_queue ls steps w ready) e
 
 -- ---- counts
 
-pub steps_count : (ls : List Listener) (steps : List Step) (w left : Working) → drafted (steps_run ls steps w) ≡ Ok left → w.counted ≤ left.counted
+pub steps_count : (ls : List Listener) (steps : List Step) (w left : Working) → left_draft (steps_run ls steps w) ≡ Ok left → w.counted ≤ left.counted
 steps_count ls steps w left e =
     drafted_so (λ v. w.counted ≤ v.counted) (steps_run ls steps w) left (run_keeps AnyRunning CountsOn counts_on counts_on_queue ls steps w tt) e
 
@@ -100,7 +100,7 @@ steps_end ls steps w few =
 pub deferred_refused : (ls : List Listener) (steps : List Step) (w : Working) (cause : Cause) → count_step w ≡ Err cause
     → deferred_run ls steps w ≡ Err (cause, None)
 unfolding deferred_run
-deferred_refused ls steps w cause refused = ap (λ r. and_then (at_none r) (steps_run ls steps)) refused
+deferred_refused ls steps w cause refused = ap (λ r. refused_or (at_none r) (steps_run ls steps)) refused
 
 -- ---- a line's own step
 
@@ -118,7 +118,7 @@ pub steps_come_to : (ls : List Listener) (steps : List Step) (w : Working) (firs
     → queue_run ls m ≡ Ok n → steps_run ls steps w ≡ Ok n
 unfolding steps_run
 steps_come_to ls steps w first m n is ran rest =
-    ap (λ x. and_then (script_from 0 ls steps x) (queue_run ls)) (sym is) ∙ ap (λ r. and_then r (queue_run ls)) ran ∙ rest
+    ap (λ x. refused_or (script_from 0 ls steps x) (queue_run ls)) (sym is) ∙ ap (λ r. refused_or r (queue_run ls)) ran ∙ rest
 
 -- what a part of a line says of a refusal, the line says, where it is refused as the part is
 pub refusal_of : {A B : Type 0} (r : Refusal) (part : Result A Refused) (whole : Result B Refused)
@@ -130,4 +130,4 @@ pub steps_refused_by : (ls : List Listener) (steps : List Step) (w : Working) (f
     → script_from 0 ls steps first ≡ Err refused → steps_run ls steps w ≡ Err refused
 unfolding steps_run
 steps_refused_by ls steps w first refused is ran =
-    ap (λ x. and_then (script_from 0 ls steps x) (queue_run ls)) (sym is) ∙ ap (λ r. and_then r (queue_run ls)) ran
+    ap (λ x. refused_or (script_from 0 ls steps x) (queue_run ls)) (sym is) ∙ ap (λ r. refused_or r (queue_run ls)) ran

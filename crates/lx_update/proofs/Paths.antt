@@ -16,7 +16,7 @@ use Rattle.lx_draft.specs.Steps.{count_step, new_step, set_step, put_step, mark_
 use Rattle.lx_edit.specs.Edits.{remove_step, children_step, replace_step, wrap_step, unwrap_step}
 use Rattle.lx_edit.specs.Texts.{split_step, join_step}
 use Rattle.lx_edit.proofs.Paths.{IsPath, Leads, self, then, ok, allowed, remove_path, replace_path, wrap_path, unwrap_path, children_path, split_path, join_path}
-use Rattle.lx_update.specs.Appending.{appended, filled, text_step}
+use Rattle.lx_update.specs.Appending.{appended, text_put, text_step}
 use Rattle.lx_update.specs.Naming.{Naming, names_bound}
 use Rattle.lx_update.specs.Scripts.{Scripted, scripted, resolved, on_draft, naming, at_node, at_nodes, move_fault, loosened, index_or, script_put_step, repatched, script_set_step, name_of_first, selection_for, effect_of}
 
@@ -73,7 +73,7 @@ text_path path parent text w v d e =
     (λ u a e. path.put w.next_key parent 0 u v tt (path.ready w u a) e) e
 
 filled_path : {D : Working → Type 0} {R : Working → Working → Type 0} → IsPath D R (λ k. Unit {0}) → (parent : ℕ) (text : List ℕ)
-    → Leads D R (filled parent text)
+    → Leads D R (text_put parent text)
 filled_path {R = R} path parent [] w v d e = ok R w w v (self path w d) e
 filled_path path parent (c ∷ text) w v d e = text_path path parent (c ∷ text) w v d e
 
@@ -81,9 +81,9 @@ append_path : {D : Working → Type 0} {R : Working → Working → Type 0} → 
 unfolding appended
 append_path path text w v d e =
     then path w v (new_step Paragraph plain_element w)
-    (λ made. after (filled w.next_key text made) (λ full. put_step w.next_key 0 (size_of full.forest 0) full))
+    (λ made. after (text_put w.next_key text made) (λ full. put_step w.next_key 0 (size_of full.forest 0) full))
     (λ u e. path.new Paragraph plain_element w u d e)
-    (λ u a e. then path u v (filled w.next_key text u) (λ full. put_step w.next_key 0 (size_of full.forest 0) full)
+    (λ u a e. then path u v (text_put w.next_key text u) (λ full. put_step w.next_key 0 (size_of full.forest 0) full)
     (λ x e. filled_path path w.next_key text u x (path.ready w u a) e)
     (λ x b e. path.put w.next_key 0 (size_of x.forest 0) x v tt (path.ready u x b) e) e) e
 

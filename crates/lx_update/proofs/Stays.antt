@@ -11,9 +11,9 @@ use Rattle.lx_step.specs.declared.step.Step.{Step}
 use Rattle.lx_step.specs.declared.step.Step.TheVariants as step
 use Rattle.lx_bus.specs.Offers.{above, behind}
 use Rattle.lx_draft.specs.Faults.{after}
-use Rattle.lx_update.specs.Holding.{holds}
+use Rattle.lx_update.specs.Holding.{conditions_hold}
 use Rattle.lx_update.specs.Scripts.{effect_of}
-use Rattle.lx_update.specs.Running.{Running, Queued, Dispatching, running, on_script, take_count, queued, done_by, done_if, payload_for, effect_in, step_in, steps_in, answered, offer, offered, unless_handled, built_in_or, dispatched, most_nested, in_turn, emptied}
+use Rattle.lx_update.specs.Running.{Running, Queued, Dispatching, running, on_script, take_count, queued, done_by, done_if, payload_for, effect_in, step_in, steps_in, answered, offer, offered, unless_handled, built_in_or, dispatched, most_nested, queue_in_turn, emptied}
 
 -- what is made, if it is, is so
 abbrev pub Makes : {A E : Type 0} → (A → Type 0) → Result A E → Type 0
@@ -107,7 +107,7 @@ steps_keep D R kept d keeps sent (s ∷ steps) m ready =
 answered_keeps : (D : Running → Type 0) (R : Running → Running → Type 0) → IsKept D R → (d : Dispatching) → Keeps D R d
     → (sent : Payload) (l : Listener) (m n : Running) → R m n → Makes (λ r. R m r.0) (answered d sent l n)
 answered_keeps D R kept d keeps sent l m n begun =
-    if_answered (λ r. R m r.0) (holds l.when sent n.script.draft) (after (steps_in d sent (steps_of l.steps) n) (λ o. Ok (o, l.handled))) n
+    if_answered (λ r. R m r.0) (conditions_hold l.when sent n.script.draft) (after (steps_in d sent (steps_of l.steps) n) (λ o. Ok (o, l.handled))) n
     (makes_then (R n) (λ r. R m r.0) (steps_in d sent (steps_of l.steps) n) (λ o. Ok (o, l.handled))
     (steps_keep D R kept d keeps sent (steps_of l.steps) n (kept.ready m n begun))
     (λ o h. kept.on m n o begun h)) begun
@@ -159,7 +159,7 @@ IsOfScripts D R = (m : Running) (queue : List Queued) → D m → R m (running m
 
 turn_keeps : (D : Running → Type 0) (R : Running → Running → Type 0) → IsKept D R → IsOfScripts D R → (more : ℕ) (ls : List Listener) (m : Running) → D m
     → ((n : Running) → D n → Makes (R n) (emptied more ls n))
-    → (queue : List Queued) → Makes (R m) (in_turn (steps_in (dispatched most_nested ls)) (emptied more ls) queue m)
+    → (queue : List Queued) → Makes (R m) (queue_in_turn (steps_in (dispatched most_nested ls)) (emptied more ls) queue m)
 turn_keeps D R kept free more ls m ready next [] = kept.same m ready
 turn_keeps D R kept free more ls m ready next (q ∷ queue) =
     let taken : R m (running m.script queue) = free m queue ready in

@@ -13,12 +13,12 @@ abbrev pub text_step : ℕ → List ℕ → Working → Result Working Cause
 text_step parent text w = after (new_step Text (plain_text text) w) (λ v. put_step w.next_key parent 0 v)
 
 -- a new text, unless it is empty
-abbrev pub filled : ℕ → List ℕ → Working → Result Working Cause
-filled parent [] w = Ok w
-filled parent (c ∷ text) w = text_step parent (c ∷ text) w
+abbrev pub text_put : ℕ → List ℕ → Working → Result Working Cause
+text_put parent [] w = Ok w
+text_put parent (c ∷ text) w = text_step parent (c ∷ text) w
 
 -- a new paragraph, the text in it, and the paragraph at the root's end
 unfoldable pub appended : List ℕ → Working → Result Working Cause
 appended text w =
     after (new_step Paragraph plain_element w) (λ made.
-    after (filled w.next_key text made) (λ full. put_step w.next_key 0 (size_of full.forest 0) full))
+    after (text_put w.next_key text made) (λ full. put_step w.next_key 0 (size_of full.forest 0) full))

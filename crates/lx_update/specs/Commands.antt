@@ -73,8 +73,8 @@ abbrev pub sides : List (List ℕ × Bool)
 sides = (chars (codes "before"), false) ∷ (chars (codes "after"), true) ∷ []
 
 -- the types of lists, by their words
-abbrev pub list_types : List (List ℕ × ListType)
-list_types = (chars (codes "bullet"), Bullet) ∷ (chars (codes "number"), Number) ∷ (chars (codes "check"), Check) ∷ []
+abbrev pub list_type_words : List (List ℕ × ListType)
+list_type_words = (chars (codes "bullet"), Bullet) ∷ (chars (codes "number"), Number) ∷ (chars (codes "check"), Check) ∷ []
 
 -- the formats of texts, each with its bit
 abbrev pub formats : List (List ℕ × ℕ)
@@ -125,7 +125,7 @@ command_step (Caret DeleteCharacter) sent w = with_sent (word_sent ways sent) de
 command_step (Caret DeleteWord) sent w = with_sent (word_sent ways sent) delete_word_step w
 command_step (Caret FormatText) sent w = with_sent (word_sent formats sent) format_text_step w
 command_step (Caret Paste) sent w = with_sent (text_sent sent) paste_step w
-command_step (list MakeList) sent w = with_sent (word_sent list_types sent) make_list_step w
+command_step (list MakeList) sent w = with_sent (word_sent list_type_words sent) make_list_step w
 command_step (Table InsertTable) sent w = with_size insert_table_step sent w
 command_step (Table InsertRow) sent w = with_sent (word_sent sides sent) insert_row_step w
 command_step (Table InsertColumn) sent w = with_sent (word_sent sides sent) insert_column_step w

@@ -13,9 +13,9 @@ use Rattle.lx_draft.specs.Working.{Working}
 use Rattle.lx_update.specs.Scripts.{anchor_of, block_around}
 
 -- whether the payload is this text
-abbrev pub is_text : List ℕ → Payload → Bool
-is_text text (payload.Text other) = same_text text other
-is_text text other = false
+abbrev pub is_payload_text : List ℕ → Payload → Bool
+is_payload_text text (payload.Text other) = same_text text other
+is_payload_text text other = false
 
 -- the word for the kind of a selection
 abbrev pub selection_word : Selection → List ℕ
@@ -39,8 +39,8 @@ if_told test None = true
 if_told test (Some text) = test text
 
 -- whether each condition of a listener that is given holds
-unfoldable pub holds : When → Payload → Working → Bool
-holds when sent w =
-    if_told (λ text. is_text text sent) when.payload
+unfoldable pub conditions_hold : When → Payload → Working → Bool
+conditions_hold when sent w =
+    if_told (λ text. is_payload_text text sent) when.payload
     && if_told (λ text. same_text text (chars (selection_word w.selection))) when.selection
     && if_told (λ text. is_type text (block_kind w)) when.block

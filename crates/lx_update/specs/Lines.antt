@@ -20,8 +20,8 @@ use Rattle.lx_draft.specs.Covering.{IsReady, AreCovered}
 use Rattle.lx_draft.specs.Faults.{after}
 use Rattle.lx_draft.specs.Steps.{count_step}
 use Rattle.lx_update.specs.Naming.{no_names}
-use Rattle.lx_update.specs.Refusals.{Refused, at_step, at_none, and_then}
-use Rattle.lx_update.specs.Running.{Running, Queued, running, take_count, step_in, is_nothing, offered, dispatched, most_nested, emptied}
+use Rattle.lx_update.specs.Refusals.{Refused, at_step, at_none, refused_or}
+use Rattle.lx_update.specs.Running.{Running, Queued, running, take_count, step_in, sends_nothing, offered, dispatched, most_nested, emptied}
 use Rattle.lx_update.specs.Scripts.{scripted}
 use Rattle.lx_update.specs.declared.ending.Ended.{Ended as Told}
 use Rattle.lx_update.specs.declared.ending.Ended.TheVariants as told
@@ -36,7 +36,7 @@ at_first w = running (scripted w no_names) []
 unfoldable pub script_from : ℕ → List Listener → List Step → Running → Result Running Refused
 script_from index ls [] m = Ok m
 script_from index ls (first ∷ rest) m =
-    and_then (at_step index (step_in (dispatched most_nested ls) Nothing first m)) (script_from (index + 1) ls rest)
+    refused_or (at_step index (step_in (dispatched most_nested ls) Nothing first m)) (script_from (index + 1) ls rest)
 
 -- What is queued runs last, for which no step is refused. Each list of steps that is queued came with a count, so that after
 -- as many lists as there may be counts none is left.
@@ -45,11 +45,11 @@ queue_run ls m = at_none (emptied most_counts ls m)
 
 -- the steps of a line run, with these listeners, and then what they have queued
 unfoldable pub steps_run : List Listener → List Step → Working → Result Running Refused
-steps_run ls steps w = and_then (script_from 0 ls steps (at_first w)) (queue_run ls)
+steps_run ls steps w = refused_or (script_from 0 ls steps (at_first w)) (queue_run ls)
 
 -- Steps that wait for a line which commits them take a count as they begin, for which no step is refused.
 unfoldable pub deferred_run : List Listener → List Step → Working → Result Running Refused
-deferred_run ls steps w = and_then (at_none (count_step w)) (steps_run ls steps)
+deferred_run ls steps w = refused_or (at_none (count_step w)) (steps_run ls steps)
 
 -- ---- a dispatch that is a line
 
@@ -85,7 +85,7 @@ is_untouched committed m =
 -- something already.
 abbrev pub reached : Turn → Payload → Selection → Running → Result Ended Cause
 reached turn sent committed m =
-    if is_nothing sent then (if is_untouched committed m then Ok (turned turn) else Err HistoryInside) else Err BadCommand
+    if sends_nothing sent then (if is_untouched committed m then Ok (turned turn) else Err HistoryInside) else Err BadCommand
 
 -- what is done then where the listeners haven't handled the command
 abbrev pub unless_stopped : (Running → Result Ended Cause) → Running × Bool → Result Ended Cause
@@ -97,31 +97,31 @@ most_inside = 63
 
 -- A command of the history is offered to the listeners above it, then takes its count, and is reached. Any other is
 -- dispatched as among steps.
-abbrev pub ended_by : Option Turn → List Listener → Command → Running → Result Ended Cause
-ended_by None ls c m = after (dispatched most_nested ls c.name c.payload m) (λ r. Ok (ran r.0 r.1))
-ended_by (Some turn) ls c m =
+abbrev pub command_ended : Option Turn → List Listener → Command → Running → Result Ended Cause
+command_ended None ls c m = after (dispatched most_nested ls c.name c.payload m) (λ r. Ok (ran r.0 r.1))
+command_ended (Some turn) ls c m =
     after (offered (dispatched most_inside ls) c.payload (above c.name ls) m)
     (unless_stopped (λ n. after (take_count n) (reached turn c.payload m.script.draft.selection)))
 
 -- the dispatch of a line once it has taken its count
 abbrev pub dispatch_begun : List Listener → Command → Running → Result Ended Cause
-dispatch_begun ls c m = after (take_count m) (ended_by (turn_of (built_in_of c.name)) ls c)
+dispatch_begun ls c m = after (take_count m) (command_ended (turn_of (built_in_of c.name)) ls c)
 
 -- what a dispatch has queued runs last, and whether it was handled stays
 abbrev pub dispatch_ended : List Listener → Ended → Result Ended Refused
-dispatch_ended ls (ran m handled) = and_then (queue_run ls m) (λ n. Ok (ran n handled))
+dispatch_ended ls (ran m handled) = refused_or (queue_run ls m) (λ n. Ok (ran n handled))
 dispatch_ended ls (turned turn) = Ok (turned turn)
 
 -- A dispatch that is a line: it is the line's only step, with index 0, and takes its count.
 unfoldable pub dispatch_run : List Listener → Command → Working → Result Ended Refused
-dispatch_run ls c w = and_then (at_step 0 (dispatch_begun ls c (at_first w))) (dispatch_ended ls)
+dispatch_run ls c w = refused_or (at_step 0 (dispatch_begun ls c (at_first w))) (dispatch_ended ls)
 
 -- ---- what is left
 
 -- the draft that steps leave, unless they are refused
-abbrev pub drafted : Result Running Refused → Result Working Refused
-drafted (Ok m) = Ok m.script.draft
-drafted (Err refused) = Err refused
+abbrev pub left_draft : Result Running Refused → Result Working Refused
+left_draft (Ok m) = Ok m.script.draft
+left_draft (Err refused) = Err refused
 
 -- what is left of a dispatch: a draft, with whether it was handled, or the turn of the history
 abbrev pub ending_of : Ended → Ending

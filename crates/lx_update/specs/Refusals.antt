@@ -21,9 +21,9 @@ at_none (Ok a) = Ok a
 at_none (Err cause) = Err (cause, None)
 
 -- what is done with what was made, unless it was refused
-abbrev pub and_then : {A B : Type 0} → Result A Refused → (A → Result B Refused) → Result B Refused
-and_then (Ok a) next = next a
-and_then (Err refused) next = Err refused
+abbrev pub refused_or : {A B : Type 0} → Result A Refused → (A → Result B Refused) → Result B Refused
+refused_or (Ok a) next = next a
+refused_or (Err refused) next = Err refused
 
 -- It is refused for this cause and at this step, or memory ran out.
 abbrev pub TellsRefusal : {A : Type 0} → Refusal → Result A Refused → Type 0

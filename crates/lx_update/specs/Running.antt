@@ -16,7 +16,7 @@ use Rattle.lx_draft.specs.Faults.{after}
 use Rattle.lx_draft.specs.Steps.{count_step}
 use Rattle.lx_update.specs.Commands.{command_step}
 use Rattle.lx_update.specs.declared.dispatching.Dispatcher.{Dispatcher}
-use Rattle.lx_update.specs.Holding.{holds}
+use Rattle.lx_update.specs.Holding.{conditions_hold}
 use Rattle.lx_update.specs.Scripts.{Scripted, on_draft, effect_of}
 
 -- steps that are queued, with the payload that "@payload" stands for in them
@@ -52,9 +52,9 @@ queued_first steps sent m = running m.script (record { steps = steps; sent = sen
 -- ---- steps
 
 -- whether nothing is sent with the command
-abbrev pub is_nothing : Payload → Bool
-is_nothing payload.Nothing = true
-is_nothing other = false
+abbrev pub sends_nothing : Payload → Bool
+sends_nothing payload.Nothing = true
+sends_nothing other = false
 
 -- what a built-in command does with a payload
 abbrev pub done_by : BuiltIn → Payload → Running → Result Running Cause
@@ -99,7 +99,7 @@ steps_in dispatching sent (first ∷ rest) m = after (step_in dispatching sent f
 -- what a listener does that is offered a command, and whether it has handled it: nothing where its conditions don't hold
 abbrev pub answered : Dispatching → Payload → Listener → Running → Result (Running × Bool) Cause
 answered dispatching sent l m =
-    if holds l.when sent m.script.draft then after (steps_in dispatching sent (steps_of l.steps) m) (λ n. Ok (n, l.handled)) else Ok (m, false)
+    if conditions_hold l.when sent m.script.draft then after (steps_in dispatching sent (steps_of l.steps) m) (λ n. Ok (n, l.handled)) else Ok (m, false)
 
 -- a listener is offered a command, which takes a count
 unfoldable pub offer : Dispatching → Payload → Listener → Running → Result (Running × Bool) Cause
@@ -140,11 +140,11 @@ most_nested = 64
 -- ---- the queue
 
 -- the first list of steps that is queued runs, and then the rest
-abbrev pub in_turn : (Payload → List Step → Running → Result Running Cause) → (Running → Result Running Cause) → List Queued → Running → Result Running Cause
-in_turn runs next [] m = Ok m
-in_turn runs next (q ∷ queue) m = after (runs q.sent q.steps (running m.script queue)) next
+abbrev pub queue_in_turn : (Payload → List Step → Running → Result Running Cause) → (Running → Result Running Cause) → List Queued → Running → Result Running Cause
+queue_in_turn runs next [] m = Ok m
+queue_in_turn runs next (q ∷ queue) m = after (runs q.sent q.steps (running m.script queue)) next
 
 -- All that is queued, first in, first out, also what is queued meanwhile: at most so many lists of steps.
 unfoldable pub emptied : ℕ → List Listener → Running → Result Running Cause
 emptied zero ls m = Ok m
-emptied (suc more) ls m = in_turn (steps_in (dispatched most_nested ls)) (emptied more ls) m.queue m
+emptied (suc more) ls m = queue_in_turn (steps_in (dispatched most_nested ls)) (emptied more ls) m.queue m

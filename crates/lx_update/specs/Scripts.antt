@@ -51,9 +51,9 @@ anchor_of (selection.Range anchor focus format) = Some anchor.key
 anchor_of other = None
 
 -- the node of a range's focus
-abbrev pub focus_of : Selection → Option ℕ
-focus_of (selection.Range anchor focus format) = Some focus.key
-focus_of other = None
+abbrev pub focus_node : Selection → Option ℕ
+focus_node (selection.Range anchor focus format) = Some focus.key
+focus_node other = None
 
 -- the text block of a node, if there is one
 abbrev pub block_around : Forest → Option ℕ → Option ℕ
@@ -64,7 +64,7 @@ block_around f (Some k) = block_of f k
 abbrev pub key_for : Reference → Scripted → Option ℕ
 key_for (reference.Key k) s = Some k
 key_for reference.Anchor s = anchor_of s.draft.selection
-key_for reference.Focus s = focus_of s.draft.selection
+key_for reference.Focus s = focus_node s.draft.selection
 key_for reference.Block s = block_around s.draft.forest (anchor_of s.draft.selection)
 key_for (reference.Name name) s = get s.names name
 
@@ -77,13 +77,13 @@ said_of reference.Block = named.Name (chars (codes "@block"))
 said_of (reference.Name name) = named.Name name
 
 -- a node that is there, or else the refusal with what is said to be unknown
-abbrev pub if_there : Forest → Option ℕ → Named → Result ℕ Cause
-if_there f None said = Err (UnknownNode said)
-if_there f (Some k) said = if has k f then Ok k else Err (UnknownNode said)
+abbrev pub node_there : Forest → Option ℕ → Named → Result ℕ Cause
+node_there f None said = Err (UnknownNode said)
+node_there f (Some k) said = if has k f then Ok k else Err (UnknownNode said)
 
 -- the node that a reference means, or the refusal
 unfoldable pub resolved : Reference → Scripted → Result ℕ Cause
-resolved r s = if_there s.draft.forest (key_for r s) (said_of r)
+resolved r s = node_there s.draft.forest (key_for r s) (said_of r)
 
 -- ---- steps
 
@@ -170,13 +170,13 @@ abbrev pub point_at : ℕ → PointRef → Point
 point_at k p = record { key = k; offset = p.offset; kind = p.kind }
 
 -- the format of a text or tab, and 0 of any other node
-abbrev pub format_in : Option Fields → ℕ
-format_in (Some (fields.Text text)) = text.format
-format_in other = 0
+abbrev pub format_of_fields : Option Fields → ℕ
+format_of_fields (Some (fields.Text text)) = text.format
+format_of_fields other = 0
 
 -- the format that is given, or else that of a node
 abbrev pub format_or : Option ℕ → Forest → ℕ → ℕ
-format_or None f k = format_in (fields_of f k)
+format_or None f k = format_of_fields (fields_of f k)
 format_or (Some format) f k = format
 
 -- the nodes of references, from left to right

@@ -1,6 +1,6 @@
 ghost use Rattle.std.specs.Prelude.{chars};
 ghost use Rattle.lx_edit.specs.Standing.{Does};
-ghost use Rattle.lx_update.specs.Appending.{appended, filled, text_step};
+ghost use Rattle.lx_update.specs.Appending.{appended, text_put, text_step};
 
 use lx_draft::Draft;
 use lx_node::{Fault, Fields, Key, Kind};
@@ -19,7 +19,7 @@ pub(crate) fn append_paragraph(alloc: Global, draft: &mut Draft, text: &str) -> 
 
 /// A new text in a node without children, unless it is empty.
 fn fill(alloc: Global, draft: &mut Draft, parent: Key, text: &str) -> Result<(), Fault>
-    ensures { Does (filled parent (chars text.now) draft.old) draft.new result }
+    ensures { Does (text_put parent (chars text.now) draft.old) draft.new result }
 {
     if text.is_empty() {
         Ok(())

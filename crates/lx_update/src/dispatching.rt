@@ -33,7 +33,7 @@ fn payload_for<'a>(sent: &'a Payload, payload: &'a Payload) -> &'a Payload
 
 /// Whether a payload is nothing.
 pub(crate) fn is_nothing(sent: &Payload) -> bool
-    ensures { result ≡ spec.is_nothing sent.now }
+    ensures { result ≡ spec.sends_nothing sent.now }
 {
     matches!(sent, Payload::Nothing)
 }

@@ -12,9 +12,9 @@ use lx_select::Selection;
 use lx_step::{Payload, When};
 
 /// Whether each condition holds that is given, of the payload that was sent and of the draft.
-#[tactic(auto, unfolding(crate::specs::Holding::holds))]
+#[tactic(auto, unfolding(crate::specs::Holding::conditions_hold))]
 pub(crate) fn holds(when: &When, sent: &Payload, draft: &Draft) -> bool
-    ensures { result ≡ holding.holds when.now sent.now draft.now }
+    ensures { result ≡ holding.conditions_hold when.now sent.now draft.now }
 {
     payload_holds(&when.payload, sent)
         && selection_holds(&when.selection, draft.selection())
@@ -23,7 +23,7 @@ pub(crate) fn holds(when: &When, sent: &Payload, draft: &Draft) -> bool
 
 /// The payload is this text, if one is given.
 fn payload_holds(told: &Option<Txt>, sent: &Payload) -> bool
-    ensures { result ≡ holding.if_told (λ text. holding.is_text text sent.now) told.now }
+    ensures { result ≡ holding.if_told (λ text. holding.is_payload_text text sent.now) told.now }
 {
     match told {
         Some(text) => is_text(text, sent),
@@ -32,7 +32,7 @@ fn payload_holds(told: &Option<Txt>, sent: &Payload) -> bool
 }
 
 fn is_text(text: &Txt, payload: &Payload) -> bool
-    ensures { result ≡ holding.is_text text.now payload.now }
+    ensures { result ≡ holding.is_payload_text text.now payload.now }
 {
     match payload {
         Payload::Text(other) => text.is_equal(other),

@@ -5,7 +5,7 @@ ghost use Rattle.lx_step.specs.declared.command.Payload.TheVariants.{Nothing};
 ghost use Rattle.lx_step.specs.Sound.{IsSound};
 ghost use Rattle.lx_draft.specs.Covering.{IsReady, AreCovered};
 ghost use Rattle.lx_node.specs.Limits.{most_counts};
-ghost use Rattle.lx_update.specs.Lines.{script_from, queue_run, steps_run, deferred_run, dispatch_begun, dispatch_run, drafted, answer_drafted, ended_with, IsEndingCovered, IsEmptied, IsAnswerEmptied};
+ghost use Rattle.lx_update.specs.Lines.{script_from, queue_run, steps_run, deferred_run, dispatch_begun, dispatch_run, left_draft, answer_drafted, ended_with, IsEndingCovered, IsEmptied, IsAnswerEmptied};
 ghost use Rattle.lx_update.specs.Refusals.{at_step, IsRefusal, TellsRefusal};
 
 use crate::dispatching::{Dispatcher, MOST_NESTED, run_step};
@@ -26,7 +26,7 @@ use std::alloc::Global;
 #[tactic(auto, unfolding(crate::specs::Lines::steps_run))]
 pub fn run_steps(alloc: Global, bus: &Bus, draft: Draft, steps: &[Step]) -> Result<Draft, Refusal>
     requires sound { All IsSound steps.now }
-    ensures ok { IfOk result (λ left. drafted (steps_run bus.now steps.now draft) ≡ Ok left) }
+    ensures ok { IfOk result (λ left. left_draft (steps_run bus.now steps.now draft) ≡ Ok left) }
     ensures covered { IfOk result (λ left. IsReady draft → AreCovered draft left) }
     ensures emptied { OnOk result (IsEmptied (steps_run bus.now steps.now draft)) }
     ensures err { IfErr result (λ e. TellsRefusal e (steps_run bus.now steps.now draft)) }
@@ -53,7 +53,7 @@ pub fn run_deferred(
     steps: &[Step],
 ) -> Result<Draft, Refusal>
     requires sound { All IsSound steps.now }
-    ensures ok { IfOk result (λ left. drafted (deferred_run bus.now steps.now draft) ≡ Ok left) }
+    ensures ok { IfOk result (λ left. left_draft (deferred_run bus.now steps.now draft) ≡ Ok left) }
     ensures covered { IfOk result (λ left. IsReady draft → AreCovered draft left) }
     ensures counted { IfOk result (λ left. draft.counted + 1 ≤ left.counted) }
     ensures few { IfOk result (λ left. left.counted ≤ most_counts) }

@@ -65,7 +65,7 @@ pub(crate) fn anchor_of(selection: &Selection) -> Option<Key>
 }
 
 fn focus_of(selection: &Selection) -> Option<Key>
-    ensures { result ≡ scripts.focus_of selection.now }
+    ensures { result ≡ scripts.focus_node selection.now }
 {
     match selection {
         Selection::Range { focus, .. } => Some(focus.key),

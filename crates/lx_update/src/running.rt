@@ -109,7 +109,7 @@ impl<'a> Running<'a> {
 
     /// Whether the conditions of a listener hold.
     pub(crate) fn holds(&self, when: &When, sent: &Payload) -> bool
-        ensures { result ≡ holding.holds when.now sent.now self.now.script.draft }
+        ensures { result ≡ holding.conditions_hold when.now sent.now self.now.script.draft }
     {
         holds(when, sent, &self.draft)
     }

@@ -2,7 +2,7 @@
 
 ghost use Rattle.std.specs.Prelude.{◌≡◌, Some, Ok, IfOk, IfErr};
 ghost use Rattle.lx_draft.specs.Faults.{TellsStep};
-ghost use Rattle.lx_update.specs.Lines.{reached, ended_by, dispatch_begun, ended_with};
+ghost use Rattle.lx_update.specs.Lines.{reached, command_ended, dispatch_begun, ended_with};
 
 use crate::dispatching::{Dispatcher, MOST_NESTED, dispatch, is_nothing, offer_all};
 use crate::ending::Ended;
@@ -46,8 +46,8 @@ fn turn_history<'a>(
     turn: Turn,
     command: &'a Command,
 ) -> Result<Ended, Fault>
-    ensures ok { IfOk result (λ ended. ended_by (Some turn) bus.now command.now running.old ≡ Ok (ended_with ended running.new)) }
-    ensures err { IfErr result (λ e. TellsStep e (ended_by (Some turn) bus.now command.now running.old)) }
+    ensures ok { IfOk result (λ ended. command_ended (Some turn) bus.now command.now running.old ≡ Ok (ended_with ended running.new)) }
+    ensures err { IfErr result (λ e. TellsStep e (command_ended (Some turn) bus.now command.now running.old)) }
 {
     let Ok(committed) = running.copy_selection() else {
         return Err(Fault::Memory);

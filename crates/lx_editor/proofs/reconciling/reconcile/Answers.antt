@@ -5,7 +5,7 @@ use Rattle.lx_marks.specs.Marks.{is_noted}
 use Rattle.lx_forest.specs.Covered.{AreCovered}
 use Rattle.lx_reconcile.specs.Allowed.{Shows, unkept}
 use Rattle.lx_reconcile.specs.Allowing.{marking, IsAllowed}
-use Rattle.lx_editor.specs.Updated.{most_reads}
+use Rattle.lx_reconcile.specs.Reading.{most_reads}
 use Rattle.lx_editor.proofs.Ids.{read_alone, read_root}
 use Rattle.lx_editor.proofs.reconciling.reconcile.Goals as goal
 

@@ -4,19 +4,19 @@ use Rattle.lx_draft.specs.declared.state.State.{State}
 use Rattle.lx_history.specs.declared.kinds.Action.{Action}
 use Rattle.lx_history.specs.declared.kinds.Action.TheVariants.{Push, Merge, Discard}
 use Rattle.lx_history.specs.declared.kinds.Change.{Change}
-use Rattle.lx_history.specs.History.{History, noted, recorded, most_entries, with_entry, undone, redone, undone_to, redone_to}
+use Rattle.lx_history.specs.History.{History, noted, history_recorded, most_entries, entry_before, undone, redone, undone_to, redone_to}
 use Rattle.lx_history.specs.Laws.{IsBackAt}
 use Rattle.lx_history.proofs.laws.histories_turn.Goals as goal
 
 -- a current state in front of the entries is the first of them, of as many as there may be
 front_reached : (later : ℕ) (state : State) (current : Option State) (entries : List State) (h : History) → current ≡ Some state
-    → (g : History) × (undone_to later (take most_entries (with_entry current entries)) h ≡ Some g) × (g.current ≡ Some state)
+    → (g : History) × (undone_to later (take most_entries (entry_before current entries)) h ≡ Some g) × (g.current ≡ Some state)
 front_reached later state None entries h is = absurd (cc)
 front_reached later state (Some other) entries h is = (_, refl, is)
 
 -- what is pushed is undone
 push_back : (later moment : ℕ) (state after : State) (last : Change) (action : Action) (h : History) → h.current ≡ Some state → action ≡ Push
-    → (g : History) × (undone later (record (recorded action after h) { last = last; moment = moment }) ≡ Some g) × (g.current ≡ Some state)
+    → (g : History) × (undone later (record (history_recorded action after h) { last = last; moment = moment }) ≡ Some g) × (g.current ≡ Some state)
 unfolding undone
 push_back later moment state after last Push h is_current is_push = front_reached later state h.current h.undo _ is_current
 push_back later moment state after last Merge h is_current is_push = absurd (cc)

@@ -5,7 +5,7 @@ use Rattle.lx_node.specs.Strings.{capped}
 use Rattle.lx_forest.specs.Forest.{Forest}
 use Rattle.lx_forest.specs.Weights.{weight}
 use Rattle.lx_links.specs.Sums.{items_in, item_characters_in}
-use Rattle.lx_list.specs.Parts.{AreParts, items_of, characters_of}
+use Rattle.lx_list.specs.Parts.{AreParts, items_of, part_characters}
 use Rattle.lx_list.specs.Touched.{touched_lists}
 use Rattle.lx_list.proofs.Parted.{parts_small}
 use Rattle.lx_list.proofs.Rewritten.{WasRead, IsTheRest, items_left, characters_left, are_lists, the_rest, number_left}
@@ -31,7 +31,7 @@ read c =
       loose_characters = c.in_ok-loose_items.ensures.characters;
       own_items = c.in-Some-weigh_parts.ensures.items ∙ ap₂ (λ g parts. sum_by (items_of g) parts) c.links-links.ensures.forest c.deref-2.ensures.value;
       own_characters =
-          c.in-Some-weigh_parts.ensures.characters ∙ ap₂ (λ g parts. sum_by (characters_of g) parts) c.links-links.ensures.forest c.deref-2.ensures.value;
+          c.in-Some-weigh_parts.ensures.characters ∙ ap₂ (λ g parts. sum_by (part_characters g) parts) c.links-links.ensures.forest c.deref-2.ensures.value;
       few = search rules;
       small = search rules;
     }

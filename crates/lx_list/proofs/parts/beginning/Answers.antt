@@ -1,7 +1,7 @@
 use Rattle.std.proofs.Common.{◌≡◌, ◌∙◌, ℕ, true, Some, sym, ap, subst}
 use Rattle.lx_forest.specs.Lookups.{fields_of, first_child, previous_of}
-use Rattle.lx_list.specs.Numbering.{start_at}
-use Rattle.lx_list.specs.Numbered.{number_at}
+use Rattle.lx_list.specs.Numbering.{list_start}
+use Rattle.lx_list.specs.Numbered.{item_number}
 use Rattle.lx_list.specs.Parts.{IsBehind, IsBeginning}
 use Rattle.lx_list.proofs.Runs.{begins_first, begins_within}
 use Rattle.lx_list.proofs.parts.beginning.Goals as goal
@@ -12,7 +12,7 @@ first : (c : After-first-first) → IsBeginning c.args.draft.now c.args.list c.a
 first c =
     begins_first c.args.draft.now c.args.list c.args.window c.first-first.result c.start_of-start.result c.requires.order c.requires.some c.requires.none
     (c.first-first.ensures.first ∙ ap (λ f. first_child f c.args.list) c.links-links.ensures.forest)
-    (c.start_of-start.ensures.start ∙ ap (λ f. start_at (fields_of f c.args.list)) c.links-links.ensures.forest)
+    (c.start_of-start.ensures.start ∙ ap (λ f. list_start (fields_of f c.args.list)) c.links-links.ensures.forest)
 
 pub returns-in_default-previous : goal.returns-in_default-previous
 returns-in_default-previous c = first (goal.at.returns-in_default-previous c).After-first-first
@@ -27,9 +27,9 @@ within c before number previous starts behind =
     begins_within c.args.draft.now c.requires.since c.args.list c.args.window c.in-Some.front before number c.requires.order
     c.requires.is_list c.requires.some (sym c.first_in.ensures ∙ c.in-Some.is)
     (sym (ap (λ f. previous_of f c.in-Some.front) c.links-links.ensures.forest) ∙ sym c.previous.ensures.previous ∙ previous)
-    (λ q e. sym (ap (λ f. number_at (fields_of f q)) c.links-links.ensures.forest)
+    (λ q e. sym (ap (λ f. item_number (fields_of f q)) c.links-links.ensures.forest)
     ∙ c.starts_with.ensures starts q (ap (λ f. first_child f c.args.list) c.links-links.ensures.forest ∙ e)
-    ∙ ap Some (c.start_of-start.ensures.start ∙ ap (λ f. start_at (fields_of f c.args.list)) c.links-links.ensures.forest))
+    ∙ ap Some (c.start_of-start.ensures.start ∙ ap (λ f. list_start (fields_of f c.args.list)) c.links-links.ensures.forest))
     (subst (λ f. IsBehind f before number) c.links-links.ensures.forest behind)
 
 pub returns-in-Some-number_after : goal.returns-in-Some-number_after

@@ -6,4 +6,4 @@ use Rattle.lx_list.proofs.windows.with_elements.Given as goal
 abbrev pub invariant-loop-key : goal.invariant-loop-key
 invariant-loop-key l =
     IsWindowOf l.links (record { leaves = l.marks.leaves; elements = [] }) l.list l.fn.of_leaves
-    → IsWindowOf l.links (record { leaves = l.marks.leaves; elements = take l.key-index l.marks.elements }) l.list l.window
+    → IsWindowOf l.links (record { leaves = l.marks.leaves; elements = take l.key-index l.key-items }) l.list l.window

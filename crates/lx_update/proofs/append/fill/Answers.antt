@@ -1,13 +1,13 @@
 use Rattle.std.proofs.Common.{◌≢◌, [], ap, sym, subst, arith}
 use Rattle.std.specs.Str.{chars}
 use Rattle.lx_edit.specs.Standing.{Does}
-use Rattle.lx_update.specs.Appending.{filled}
+use Rattle.lx_update.specs.Appending.{text_put}
 use Rattle.lx_update.proofs.Composed.{no_chars, some_chars, filled_with}
 use Rattle.lx_update.proofs.append.fill.Goals as goal
 
 pub returns-then-is_empty : goal.returns-then-is_empty
 returns-then-is_empty c =
-    ap (λ text. filled c.args.parent text c.args.draft.now) (no_chars c.args.text.now (grind (arith, c.is_empty.ensures, c.if-is_empty.true)))
+    ap (λ text. text_put c.args.parent text c.args.draft.now) (no_chars c.args.text.now (grind (arith, c.is_empty.ensures, c.if-is_empty.true)))
 
 pub returns-else-is_empty : goal.returns-else-is_empty
 returns-else-is_empty c =

@@ -1,5 +1,5 @@
 use Rattle.std.proofs.Common.{◌≡◌, ◌∙◌, Ok, ap, sym}
-use Rattle.lx_update.specs.Lines.{drafted, steps_run}
+use Rattle.lx_update.specs.Lines.{left_draft, steps_run}
 use Rattle.lx_update.proofs.Made.{refusal_of, steps_refused_by, steps_come_to, steps_told, steps_end}
 use Rattle.lx_update.proofs.lines.run_steps.Goals as goal
 
@@ -14,7 +14,7 @@ returns-in-Ok-run_rest-clause-covered c ready =
     let made : steps_run c.args.bus.now c.args.steps.now c.args.draft ≡ Ok c.run_rest.new.running =
     steps_come_to c.args.bus.now c.args.steps.now c.args.draft c.new-running.result c.run_script.new.running c.run_rest.new.running c.new-running.ensures.first
     c.in-Ok.ensures.ok c.in-Ok-run_rest.ensures.ok in
-    steps_told c.args.bus.now c.args.steps.now c.args.draft c.into_draft.result (ap drafted made ∙ ap (λ left. Ok left) (sym c.into_draft.ensures)) ready
+    steps_told c.args.bus.now c.args.steps.now c.args.draft c.into_draft.result (ap left_draft made ∙ ap (λ left. Ok left) (sym c.into_draft.ensures)) ready
 
 pub returns-in-Ok-run_rest-clause-emptied : goal.returns-in-Ok-run_rest-clause-emptied
 returns-in-Ok-run_rest-clause-emptied c = steps_end c.args.bus.now c.args.steps.now c.args.draft c.new-running.ensures.few

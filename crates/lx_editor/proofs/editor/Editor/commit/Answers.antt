@@ -7,7 +7,7 @@ use Rattle.lx_editor.specs.declared.pending.Pending.{Pending}
 use Rattle.lx_editor.specs.Editor.{Editor}
 use Rattle.lx_editor.specs.Gathering.{unboxed}
 use Rattle.lx_editor.specs.Standing.{editor_of, IsValid}
-use Rattle.lx_editor.specs.Updated.{Left, left_of, state_with, recorded, IsCommitted}
+use Rattle.lx_editor.specs.Updated.{Left, what_is_left, state_with, recorded, IsCommitted}
 use Rattle.lx_editor.specs.Judged.{MayCommit}
 use Rattle.lx_editor.proofs.Updated.{allowed_fit, recorded_same, committed, made}
 use Rattle.lx_editor.proofs.editor.Editor.commit.Goals as goal
@@ -15,10 +15,10 @@ use Rattle.lx_editor.proofs.editor.Editor.commit.Goals.{After-prepare, After-for
 
 -- what came out of its box may be committed as it was
 may : (c : After-prepare)
-    → MayCommit (editor_of c.self.inside) (left_of (editor_of c.self.inside).rules c.into_inner-frozen.result) c.args.batch
+    → MayCommit (editor_of c.self.inside) (what_is_left (editor_of c.self.inside).rules c.into_inner-frozen.result) c.args.batch
 may c =
-    subst (λ (e : Editor). MayCommit e (left_of e.rules c.into_inner-frozen.result) c.args.batch) (sym c.self.view_is)
-    (subst (λ (f : Frozen). MayCommit c.args.self.now (left_of c.args.self.now.rules f) c.args.batch) (sym c.into_inner-frozen.ensures) c.requires.may)
+    subst (λ (e : Editor). MayCommit e (what_is_left e.rules c.into_inner-frozen.result) c.args.batch) (sym c.self.view_is)
+    (subst (λ (f : Frozen). MayCommit c.args.self.now (what_is_left c.args.self.now.rules f) c.args.batch) (sym c.into_inner-frozen.ensures) c.requires.may)
 
 -- what is left of the editor is valid, and what a commit leaves
 module _ (c : After-forget) where
@@ -26,7 +26,7 @@ module _ (c : After-forget) where
   e = editor_of c.self.inside
 
   abbrev left : Left
-  left = left_of e.rules c.into_inner-frozen.result
+  left = what_is_left e.rules c.into_inner-frozen.result
 
   is_recorded : c.note_strayed.new.self.history ≡ recorded e c.args.how left
   is_recorded =
@@ -51,7 +51,7 @@ module _ (c : After-forget) where
 pub follow-requires : goal.follow-requires
 follow-requires c =
     let e : Editor = editor_of c.self.inside in
-    let left : Left = left_of e.rules c.into_inner-frozen.result in
+    let left : Left = what_is_left e.rules c.into_inner-frozen.result in
     subst (λ ops. FitInTurn e.view ops) (sym c.in_ok-ops.ensures)
     (allowed_fit e.tree left.tree left.marks e.view c.args.batch.ops (may (goal.at.follow-requires c).After-prepare).allowed)
 
@@ -66,6 +66,6 @@ returns-clause-committed c =
     let at = (goal.at.returns-clause-committed c).After-forget in
     let old = c.args.self.now in
     let new : Editor = with at c.forget.new.pending in
-    subst (λ (f : Frozen). IsCommitted old c.args.how (left_of old.rules f) (old.commits + 1) c.args.batch.ops new) c.into_inner-frozen.ensures
-    (subst (λ (d : Editor). IsCommitted d c.args.how (left_of d.rules c.into_inner-frozen.result) (d.commits + 1) c.args.batch.ops new) c.self.view_is
+    subst (λ (f : Frozen). IsCommitted old c.args.how (what_is_left old.rules f) (old.commits + 1) c.args.batch.ops new) c.into_inner-frozen.ensures
+    (subst (λ (d : Editor). IsCommitted d c.args.how (what_is_left d.rules c.into_inner-frozen.result) (d.commits + 1) c.args.batch.ops new) c.self.view_is
     (done at).1)

@@ -1,7 +1,7 @@
 use Rattle.std.proofs.Common.{◌≡◌, ◌+◌, Option, Some, sym, subst}
 use Rattle.std.specs.Global.{Box}
 use Rattle.lx_draft.specs.declared.state.State.{State}
-use Rattle.lx_history.specs.History.{turned}
+use Rattle.lx_history.specs.History.{history_turned}
 use Rattle.lx_host.specs.Hosts.{FitInTurn, Leads}
 use Rattle.lx_editor.specs.declared.pending.Pending.{Pending}
 use Rattle.lx_editor.specs.Editor.{Editor}
@@ -31,7 +31,7 @@ module _ (c : After-forget) where
   leads : Leads e.view c.args.batch.ops c.follow.new.view.tree
   leads = subst (λ ops. Leads e.view ops c.follow.new.view.tree) c.in_ok-ops.ensures c.in_ok-follow.ensures.leads
 
-  turns : turned c.args.turn c.args.moment e.history ≡ Some c.turn-turned.new.self.history
+  turns : history_turned c.args.turn c.args.moment e.history ≡ Some c.turn-turned.new.self.history
   turns =
       has_turned c.turn-turned.result c.args.turn c.args.moment e.history c.prepare.new.self.history c.turn-turned.new.self.history c.into_inner-state.result
       may_turn.next c.prepare.ensures.same c.turn-turned.ensures.turned

@@ -1,5 +1,5 @@
 use Rattle.std.proofs.Common.{◌≡◌, Ok, sym, ap, subst}
-use Rattle.lx_update.specs.Lines.{drafted, steps_run}
+use Rattle.lx_update.specs.Lines.{left_draft, steps_run}
 use Rattle.lx_update.specs.Refusals.{TellsRefusal}
 use Rattle.lx_editor.specs.Editor.{Editor}
 use Rattle.lx_editor.specs.Gathering.{started_of}
@@ -17,8 +17,8 @@ pub returns-in-Ok : goal.returns-in-Ok
 returns-in-Ok c =
     let e : Editor = c.args.self.now in
     let steps = c.args.steps.now in
-    let ran : drafted (steps_run e.listeners steps c.args.draft) ≡ Ok c.in-Ok.draft =
-    subst (λ ls. drafted (steps_run ls steps c.args.draft) ≡ Ok c.in-Ok.draft) (ap (λ (d : Editor). d.listeners) c.self.view_is) c.in-Ok.ensures.ok
+    let ran : left_draft (steps_run e.listeners steps c.args.draft) ≡ Ok c.in-Ok.draft =
+    subst (λ ls. left_draft (steps_run ls steps c.args.draft) ≡ Ok c.in-Ok.draft) (ap (λ (d : Editor). d.listeners) c.self.view_is) c.in-Ok.ensures.ok
     in
     record {
       judged =

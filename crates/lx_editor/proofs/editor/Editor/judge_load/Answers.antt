@@ -7,7 +7,7 @@ use Rattle.lx_json.specs.Importing.{imported, IsImported}
 use Rattle.lx_editor.specs.Editor.{Editor}
 use Rattle.lx_editor.specs.Standing.{IsValid}
 use Rattle.lx_editor.specs.Loaded.{left_by_load}
-use Rattle.lx_editor.specs.Updated.{left_of, rested_by}
+use Rattle.lx_editor.specs.Updated.{what_is_left, rested_by}
 use Rattle.lx_editor.specs.Judged.{IsJudged, IsLeftOfImport, LeavesAtRest, IsSettledOf}
 use Rattle.lx_editor.proofs.Began.{import_rests}
 use Rattle.lx_editor.proofs.Updated.{first_key, may_give_way, load_left}
@@ -52,7 +52,7 @@ weigh_load-requires c =
     let import : IsImported now.next_key draft = subst (λ (e : Editor). IsImported e.next_key draft) c.self.view_is c.in-Ok.ensures.made in
     let at = same (goal.at.weigh_load-requires c).After-as_slice in
     let stands =
-    subst (λ (rules : List AnyRule). IsLeftOfImport draft (left_of rules c.in-Ok-rest.frozen.value)) at c.in-Ok-rest.ensures.imported now.next_key import in
+    subst (λ (rules : List AnyRule). IsLeftOfImport draft (what_is_left rules c.in-Ok-rest.frozen.value)) at c.in-Ok-rest.ensures.imported now.next_key import in
     let place = stands.3 now.tree (may_give_way now valid) in
     record { left = stands.0; shown = place.0; grown = place.1; anew = stands.1 }
 
@@ -62,15 +62,15 @@ returns-in-Ok-rest-clause-judged c =
     let now : Editor = c.args.self.now in
     let draft = c.in-Ok.draft in
     let import : IsImported now.next_key draft = subst (λ (e : Editor). IsImported e.next_key draft) c.self.view_is c.in-Ok.ensures.made in
-    let leaves : LeavesAtRest draft (left_of now.rules c.in-Ok-rest.frozen.value) =
-    subst (λ (rules : List AnyRule). LeavesAtRest draft (left_of rules c.in-Ok-rest.frozen.value)) (same at) c.in-Ok-rest.ensures.left in
-    let settles : IsSettledOf draft (left_of now.rules c.in-Ok-rest.frozen.value) =
-    subst (λ (rules : List AnyRule). IsSettledOf draft (left_of rules c.in-Ok-rest.frozen.value)) (same at)
+    let leaves : LeavesAtRest draft (what_is_left now.rules c.in-Ok-rest.frozen.value) =
+    subst (λ (rules : List AnyRule). LeavesAtRest draft (what_is_left rules c.in-Ok-rest.frozen.value)) (same at) c.in-Ok-rest.ensures.left in
+    let settles : IsSettledOf draft (what_is_left now.rules c.in-Ok-rest.frozen.value) =
+    subst (λ (rules : List AnyRule). IsSettledOf draft (what_is_left rules c.in-Ok-rest.frozen.value)) (same at)
     (c.in-Ok-rest.ensures.imported now.next_key import).2 in
     let is = left at ∙ ap (λ (rules : List AnyRule). rested_by rules draft) (same at) ∙ leaves.1 in
     told c.weigh_load.result _ _ c.weigh_load.ensures.weighed
     (λ verdict weighed. subst (λ r. IsJudged r now verdict) (sym is)
-    (settles (record { left = left_of now.rules c.in-Ok-rest.frozen.value; marks = leaves.0 }) leaves.1, weighed))
+    (settles (record { left = what_is_left now.rules c.in-Ok-rest.frozen.value; marks = leaves.0 }) leaves.1, weighed))
 
 pub returns-in-Err-rest-clause-judged : goal.returns-in-Err-rest-clause-judged
 returns-in-Err-rest-clause-judged c =

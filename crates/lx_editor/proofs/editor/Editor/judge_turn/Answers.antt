@@ -2,7 +2,7 @@ use Rattle.std.proofs.Common.{◌≡◌, ◌∙◌, Option, Some, Bor, refl, sym
 use Rattle.std.specs.Prelude.{option_map}
 use Rattle.lx_draft.specs.declared.state.State.{State}
 use Rattle.lx_history.specs.declared.entry.Entry.{Entry}
-use Rattle.lx_history.specs.History.{entry_of}
+use Rattle.lx_history.specs.History.{next_entry}
 use Rattle.lx_marks.specs.Marks.{Marked}
 use Rattle.lx_editor.specs.Editor.{Editor}
 use Rattle.lx_editor.specs.Standing.{editor_of, HasKinds, IsEntry}
@@ -17,7 +17,7 @@ abbrev states_of : Option (Bor Entry) → Option State
 states_of o = option_map (λ e. e.now.state) o
 
 -- the boxed copy of the entry that the history gives is its next one
-next : (c : After-deref) → entry_of c.args.turn (editor_of c.self.inside).history ≡ Some c.deref.result.now
+next : (c : After-deref) → next_entry c.args.turn (editor_of c.self.inside).history ≡ Some c.deref.result.now
 next c =
     next_copied c.args.turn _ (states_of c.entry_at.result) c.in-Some.entry.now.state c.deref.result.now c.entry_at.ensures.state (ap states_of c.in-Some.is)
     (ap (λ (s : State). s.links) c.deref.ensures ∙ c.in_ok-state.ensures.links)

@@ -1,4 +1,4 @@
-use Rattle.lx_editor.specs.Updated.{IsUpdated, left_by}
+use Rattle.lx_editor.specs.Updated.{IsUpdatedBy, left_by}
 use Rattle.lx_editor.proofs.Judged.{may_conclude, taken_in}
 use Rattle.lx_editor.proofs.Changed.{uncommitted_pending}
 use Rattle.lx_editor.proofs.Told.{told}
@@ -10,7 +10,7 @@ conclude-requires-clause-may g c =
     may_conclude (left_by mid.rules mid.listeners c.args.steps.now c.in_ok-draft.draft) mid c.in_ok-verdict.verdict c.in_ok-verdict.ensures.judged
 
 pub returns-clause-updated : goal.returns-clause-updated
-unfolding IsUpdated
+unfolding IsUpdatedBy
 returns-clause-updated g c =
     let old = c.args.self.now in
     let mid = c.take_draft.new.self in

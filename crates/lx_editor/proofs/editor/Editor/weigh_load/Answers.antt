@@ -5,7 +5,8 @@ use Rattle.lx_marks.specs.Marks.{Marked, is_noted}
 use Rattle.lx_reconcile.specs.Allowing.{marking, IsAllowed}
 use Rattle.lx_editor.specs.Editor.{Editor}
 use Rattle.lx_editor.specs.Standing.{editor_of}
-use Rattle.lx_editor.specs.Updated.{left_of, hosts_fault, most_reads}
+use Rattle.lx_editor.specs.Updated.{what_is_left, hosts_fault}
+use Rattle.lx_reconcile.specs.Reading.{most_reads}
 use Rattle.lx_editor.specs.Judged.{with_leaves, IsCoveredBy}
 use Rattle.lx_editor.proofs.Shown.{is_anew, may_commit}
 use Rattle.lx_editor.proofs.editor.Editor.weigh_load.Goals as goal
@@ -34,7 +35,7 @@ returns-in-Ok-clause-weighed c =
     let gone : c.in_ok-shown-in-Ok.shown.value ≡ with_leaves (children_of now.tree 0) frozen.marks =
     c.in_ok-shown-in-Ok.ensures.ok ∙ shown ∙ ap (λ (d : Editor). with_leaves (children_of d.tree 0) frozen.marks) c.self.view_is in (
       refl,
-      may_commit now (left_of now.rules frozen) (with_leaves (children_of now.tree 0)
+      may_commit now (what_is_left now.rules frozen) (with_leaves (children_of now.tree 0)
           frozen.marks) batch c.requires.left c.requires.anew c.requires.shown ids c.requires.grown allowed few,
       subst (IsCoveredBy now links) (sym gone) c.requires.shown.covered,
     )
@@ -45,7 +46,7 @@ returns-in-Err-Cause-clause-weighed c =
     let now : Editor = c.args.self.now in
     let frozen = c.args.frozen.value in
     record {
-      anew = is_anew now (left_of now.rules frozen) c.requires.anew;
+      anew = is_anew now (what_is_left now.rules frozen) c.requires.anew;
       fault =
           rw c.in-Err-Cause.field-0-is
           (subst (λ (d : Editor). hosts_fault d.tree frozen.state.links d.view ≡ Some c.in-Err-Cause.cause) c.self.view_is
