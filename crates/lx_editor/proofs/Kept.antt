@@ -19,7 +19,7 @@ use Rattle.lx_history.specs.History.{History, most_entries, entry_before, first,
 use Rattle.lx_editor.specs.declared.recording.Recording.{Recording}
 use Rattle.lx_editor.specs.Editor.{Editor}
 use Rattle.lx_editor.specs.Standing.{IsState, HasKinds, IsEntry, EachEntry, IsReturnable}
-use Rattle.lx_editor.specs.Updated.{Left, state_with, history_recorded as recorded_after}
+use Rattle.lx_editor.specs.Updated.{Left, state_with, recorded as recorded_after}
 use Rattle.lx_editor.specs.Judged.{HasGrown}
 use Rattle.lx_editor.proofs.Limits.{state_rises}
 

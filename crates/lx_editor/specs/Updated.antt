@@ -1,5 +1,5 @@
 -- What an update by steps makes of an editor, and what a commit is.
-use Rattle.std.specs.Prelude.{◌≡◌, ◌≤◌, ℕ, ◌+◌, ◌*◌, Bool, List, Option, None, Some, Result, Ok, Err}
+use Rattle.std.specs.Prelude.{◌≡◌, ◌≤◌, ℕ, ◌+◌, List, Option, None, Some, Result, Ok, Err}
 use Rattle.lx_node.specs.Limits.{last_u32}
 use Rattle.lx_node.specs.declared.cause.Cause.{Cause}
 use Rattle.lx_node.specs.declared.cause.Fault.{Fault}
@@ -13,7 +13,7 @@ use Rattle.lx_step.specs.declared.step.Step.{Step}
 use Rattle.lx_step.specs.declared.listener.Listener.{Listener}
 use Rattle.lx_forest.specs.Forest.{Forest}
 use Rattle.lx_reconcile.specs.Reading.{most_reads}
-use Rattle.lx_reconcile.specs.Allowed.{AreAllowed, marked_children, staying, unkept}
+use Rattle.lx_reconcile.specs.Allowed.{AreAllowed, unkept}
 use Rattle.lx_reconcile.specs.Told.{Told}
 use Rattle.lx_draft.specs.Working.{Working}
 use Rattle.lx_draft.specs.Freezing.{freeze_step}
