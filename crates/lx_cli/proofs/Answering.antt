@@ -1,5 +1,5 @@
 -- Lines that are answered one after another.
-use Rattle.std.proofs.Common.{◌≡◌, ℕ, ◌+◌, List, [], ◌∷◌, ◌++◌, sym, ap, ◌∙◌, refl, subst, append_assoc, length-append, arith}
+use Rattle.std.proofs.Common.{◌≡◌, ℕ, List, [], ◌∷◌, ◌++◌, sym, ap, ◌∙◌, refl, subst, append_assoc, length-append, arith}
 use Rattle.std.proofs.lemmas.List.{append-nil}
 use Rattle.lx_serving.specs.Served.{Served, AnswersIn, FollowsIn, FollowsInTo}
 use Rattle.lx_cli.specs.declared.session.Unanswered.{Unanswered}

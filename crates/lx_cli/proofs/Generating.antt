@@ -1,5 +1,5 @@
 -- Runs as their arguments have them, and runs that generate a session.
-use Rattle.std.proofs.Common.{◌≡◌, ℕ, true, false, ◌+◌, inl, inr, List, [], ◌∷◌, ◌++◌, length, refl, ap, subst, arith}
+use Rattle.std.proofs.Common.{◌≡◌, ◌∙◌, ℕ, true, false, ◌+◌, inl, inr, List, [], ◌∷◌, ◌++◌, length, refl, ap, sym, subst, arith}
 use Rattle.lx_arguments.specs.declared.options.Generated.{Generated}
 use Rattle.lx_arguments.specs.declared.options.Mode.{Mode}
 use Rattle.lx_arguments.specs.declared.options.Options.{Options}
